@@ -1,0 +1,27 @@
+-- The three ways of rounding a quotient do what they are named for.
+use mathlib.Core.Path.{_≡_}
+use mathlib.Core.Logic.{inl, inr}
+use Prim.Native.Nat.{ℕ, suc, _+_, _*_, _/_, _%_, min, _<_, _≤_}
+use native.Mathlib.Nat.{eq-zero-or-pos, div-add-mod', mod-lt}
+use native.Mathlib.Omega.{arith}
+use lib.IntN.{ℤ, pos, negsuc, _+ℤ_, _*ℤ_}
+use lib.Signed.{_<ℤ_, _≤ℤ_}
+use Rattle.std.proofs.shelf.Signed.{ints}
+use Rattle.units.specs.Rounding.{ceiling, floor, RoundedUp, RoundedDown, Floored}
+
+pub rounded-up : (a b : ℕ) → 0 < b → RoundedUp a b (ceiling a b)
+rounded-up a b h = elim (eq-zero-or-pos (a % b)) [
+  | inl none ↦ let no-more : min 1 (a % b) ≡ 0 = omega arith in record { reaches = rw no-more (omega (arith, div-add-mod' a b)); least = rw no-more (omega (arith, div-add-mod' a b)) }
+  | inr some ↦ let one-more : min 1 (a % b) ≡ 1 = omega arith in record { reaches = rw one-more (omega (arith, div-add-mod' a b, mod-lt a h)); least = rw one-more (omega (arith, div-add-mod' a b, mod-lt a h)) }
+]
+
+pub rounded-down : (a b : ℕ) → 0 < b → RoundedDown a b (a / b)
+rounded-down a b h = record { within = omega (arith, div-add-mod' a b); greatest = omega (arith, div-add-mod' a b, mod-lt a h) }
+
+pub floored : (z : ℤ) (b : ℕ) → 0 < b → Floored z b (floor z b)
+floored (pos a) b h =
+    let d = rounded-down a b h in
+    record { within = omega (arith, ints, d .within); greatest = omega (arith, ints, d .greatest) }
+floored (negsuc a) b h =
+    let d = rounded-down a b h in
+    record { within = omega (arith, ints, d .within, d .greatest); greatest = omega (arith, ints, d .within, d .greatest) }

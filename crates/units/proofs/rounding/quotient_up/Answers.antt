@@ -1,0 +1,11 @@
+use mathlib.Core.Path.{subst, sym}
+use Prim.Native.Nat.{ℕ}
+use Rattle.units.specs.Rounding.{RoundedUp}
+use Rattle.units.proofs.Quotients.{rounded-up}
+use Rattle.units.proofs.rounding.quotient_up.Needs as need
+
+pub returns : need.returns
+returns c = record {
+  value = c .div-ceil .ensures;
+  meaning = subst (λ (r : ℕ). RoundedUp (c .args .over) (c .args .under .value) r) (sym (c .div-ceil .ensures)) (rounded-up (c .args .over) (c .args .under .value) (c .args .under .above));
+}
