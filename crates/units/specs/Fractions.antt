@@ -8,7 +8,7 @@ use lib.IntN.{ℤ, pos, _+ℤ_, _*ℤ_}
 use lib.Signed.{_<ℤ_, _≤ℤ_}
 
 infixl 65 _⊕_ _⊖_
-infixl 70 _⊗_
+infixl 70 _⊗_ _⊘_
 infix 50 _≼_ _≺_ _≈_
 
 -- A whole number at or above 0, over a whole number above 0.
@@ -42,6 +42,10 @@ a ⊖ b = record { over = a .over * b .under - b .over * a .under; under = a .un
 
 abbrev pub _⊗_ : Fraction → Fraction → Fraction
 a ⊗ b = record { over = a .over * b .over; under = a .under * b .under; above = mul-pos (a .above) (b .above) }
+
+-- The quotient; it is asked only of a b above 0.
+abbrev pub _⊘_ : Fraction → Fraction → Fraction
+a ⊘ b = ratio (a .over * b .under) (a .under * b .over)
 
 -- A whole number of either sign, over a whole number above 0.
 pub record SignedFraction : Type 0 where

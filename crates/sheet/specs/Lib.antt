@@ -1,0 +1,3 @@
+pub mod Ranges
+pub mod Refusals
+pub mod Admitting

@@ -1,0 +1,4 @@
+pub mod Losses
+mod Terms
+mod Reaching
+pub mod Margin

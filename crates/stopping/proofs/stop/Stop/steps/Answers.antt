@@ -1,0 +1,70 @@
+use mathlib.Core.Path.{_≡_, refl, sym, subst, ap, _∙_}
+use mathlib.Core.Bool.{true, false, cond}
+use Prim.Native.Nat.{ℕ, _+_, _*_, _≤_}
+use native.Mathlib.Omega.{arith}
+use lib.IntN.{ℤ, pos, negsuc, _+ℤ_, natAbs}
+use lib.Signed.{ltZ, _≤ℤ_, _<ℤ_}
+use mir.Val.{SFits, toZ, ofZ}
+use mir.Syntax.{w64}
+use Rattle.std.proofs.shelf.Signed.{ints, toZ-ofZ}
+use Rattle.units.specs.Fractions.{Fraction}
+use Rattle.braking.specs.Answers.{Says}
+use Rattle.braking.specs.declared.answer.Answer.{Answer}
+use Rattle.braking.specs.declared.answer.Answer.the-variants.{Weak, Strong}
+use Rattle.braking.specs.declared.distances.Distances.{Distances}
+use Rattle.stopping.specs.Stops.{Stop, natural, target-steps, reached, reached-up, net, computed-control, computed-lead, computed-distances, verdict}
+use Rattle.stopping.specs.Working.{stop-of}
+use Rattle.stopping.proofs.Margin.{lawful}
+use Rattle.stopping.proofs.stop.Stop.steps.Needs as need
+use Rattle.stopping.proofs.stop.Stop.steps.Needs.{then-net-lt-LEAST-NET, else-net-lt-LEAST-NET}
+
+net-is : (b G : ℤ) → pos 0 ≤ℤ b → b ≤ℤ pos 1000000000 → negsuc 4199999 ≤ℤ G → G ≤ℤ pos 4200000 → toZ w64 (ofZ w64 (toZ w64 (ofZ w64 b) +ℤ toZ w64 (ofZ w64 G))) ≡ pos (natural b) +ℤ G
+net-is (pos n) G h k low high = omega (arith, ints)
+net-is (negsuc n) G h k low high = omega (arith, ints)
+
+net-fits : (b G : ℤ) → pos 0 ≤ℤ b → b ≤ℤ pos 1000000000 → negsuc 4199999 ≤ℤ G → G ≤ℤ pos 4200000 → toZ w64 (ofZ w64 (pos (natural b) +ℤ G)) ≡ pos (natural b) +ℤ G
+net-fits (pos n) G h k low high = omega (arith, ints)
+net-fits (negsuc n) G h k low high = omega (arith, ints)
+
+abs-natural : (z : ℤ) → ltZ z (pos 500000) ≡ false → natAbs z ≡ natural z
+abs-natural (pos n) h = refl
+abs-natural (negsuc n) h = grind (arith, ints)
+
+says-weak : (s : Stop) (a : Answer) → ltZ (net s) (pos 500000) ≡ true → a ≡ Weak → Says (verdict s) a
+unfolding verdict
+says-weak s a e is = rw (is, e) tt
+
+says-strong : (s : Stop) (a : Answer) (d : Distances) (B : ℕ) → ltZ (net s) (pos 500000) ≡ false → a ≡ Strong d → B ≡ reached-up s →
+    d .control .millimetres ≡ computed-control (s .reaction) B (target-steps s) (natAbs (net s)) →
+    d .warning .millimetres ≡ d .control .millimetres + computed-lead (s .tw) B →
+    d .nominal .millimetres ≡ d .warning .millimetres + computed-lead (s .ti) B → Says (verdict s) a
+unfolding verdict computed-distances
+says-strong s a d B e is is-B control warning nominal =
+    let k : natAbs (net s) ≡ natural (net s) = abs-natural (net s) e in
+    let first : d .control .millimetres ≡ computed-distances s .control = subst (λ (n : ℕ). d .control .millimetres ≡ computed-control (s .reaction) n (target-steps s) (natural (net s))) is-B (rw k at control) in
+    let second : d .warning .millimetres ≡ computed-distances s .warning = cc in
+    let third : d .nominal .millimetres ≡ computed-distances s .nominal = cc in
+    rw (is, e) (first, second, third)
+
+pub returns : need.returns
+unfolding reached-up reached
+returns c =
+    let self = c .args .self .now in
+    let is-net = net-is (self .braking .units) (self .slope .units) (self .«braking_on») (self .«braking_bounded») (self .«not_steeper_down») (self .«not_steeper_up») in
+    let fits = net-fits (self .braking .units) (self .slope .units) (self .«braking_on») (self .«braking_bounded») (self .«not_steeper_down») (self .«not_steeper_up») in
+    record {
+      worked = λ exact. record {
+        reaction = refl;
+        slope = refl;
+        reached = c .speed-reached-reached .ensures .value;
+        net = is-net;
+        answer = elim (c .if-net-lt-LEAST-NET .came) [
+          | then-net-lt-LEAST-NET w ↦ says-weak (stop-of self exact) _ (simp (is-net, fits) at (w .if-net-lt-LEAST-NET .taken)) (w .answer-is)
+          | else-net-lt-LEAST-NET w ↦
+            says-strong (stop-of self exact) _ (w .distances .result) (c .speed-reached-reached .result .steps) (simp (is-net, fits) at (w .if-net-lt-LEAST-NET .left)) (w .answer-is)
+            (c .speed-reached-reached .ensures .value) (simp (is-net, fits) at (w .distances .ensures .control)) (w .distances .ensures .warning) (w .distances .ensures .nominal)
+        ];
+      };
+      lawful = λ exact near.
+        lawful (stop-of self exact) (record { slow = self .slow; lower = self .lower; brief = self .brief; not-steeper-down = self .«not_steeper_down»; not-steeper-up = self .«not_steeper_up»; tw-brief = self .«tw_brief»; ti-brief = self .«ti_brief» }) near;
+    }

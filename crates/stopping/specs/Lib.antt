@@ -1,0 +1,4 @@
+pub mod Factors
+pub mod Slopes
+pub mod Stops
+pub mod Working
