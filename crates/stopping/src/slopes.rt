@@ -1,19 +1,29 @@
 ghost use mathlib.Core.Path.{_≡_};
-ghost use Rattle.stopping.specs.Slopes.{slope-of};
+ghost use lib.IntN.{pos, negsuc};
+ghost use lib.Signed.{_≤ℤ_};
+ghost use Rattle.stopping.specs.Slopes.{share-of, slope-of};
 use braking::Approach;
 use units::Deceleration;
+use units::Grade;
 
-// What a grade adds to the deceleration, below zero downhill. A thousandth is 981 units in hundredths of the share that is counted on.
-pub fn slope(approach: Approach) -> Deceleration
-    ensures { λ r. ⌜ r .units ≡ slope-of (approach .grade .thousandths) ⌝ }
+// The share of a grade that is counted on, in hundredths.
+fn share(grade: Grade) -> i64
+    ensures { λ r. ⌜ r ≡ pos (share-of (grade .thousandths)) ⌝ }
 {
-    let grade = approach.grade.thousandths;
-    let share = if grade > 0 {
+    if grade.thousandths > 0 {
         90
-    } else if grade >= -20 {
+    } else if grade.thousandths >= -20 {
         100
     } else {
         110
-    };
-    Deceleration { units: share * grade * 981 }
+    }
+}
+
+// What the grade adds to the deceleration, below zero downhill: 981 units for a thousandth and a hundredth of its share.
+pub fn slope(approach: Approach) -> Deceleration
+    ensures value { λ r. ⌜ r .units ≡ slope-of (approach .grade .thousandths) ⌝ }
+    ensures not_below { λ r. ⌜ negsuc 4199999 ≤ℤ r .units ⌝ }
+    ensures not_above { λ r. ⌜ r .units ≤ℤ pos 4200000 ⌝ }
+{
+    Deceleration { units: share(approach.grade) * approach.grade.thousandths * 981 }
 }

@@ -14,7 +14,7 @@ use Rattle.units.specs.Rounding.{Floored}
 use Rattle.units.specs.Fractions.{whole}
 use Rattle.stopping.specs.Stops.{Stop, Limited, reached-up}
 use Rattle.stopping.specs.Working.{stop-of}
-use Rattle.stopping.specs.declared.stop.Stop.{Stop as StopStruct}
+use Rattle.stopping.proofs.Limits.{limited}
 use Rattle.stopping.proofs.Reaching.{loss-not-below, loss-not-above, loss-small, is-reached-up, reached-up-bounded}
 use Rattle.stopping.proofs.stop.Stop.speed_reached.Needs as need
 
@@ -38,10 +38,6 @@ uncast-target V h = omega (arith, ints)
 uncast-maximum : (m : ℤ) (n : ℕ) → mag m < 9223372036854775808 → pos n ≤ℤ m → pos (natAbs (toZ w64 (ofZ w64 m))) ≡ m
 uncast-maximum (pos a) n h k = omega (arith, ints)
 uncast-maximum (negsuc a) n h k = omega (arith, ints)
-
--- the stop of a struct is within limits
-limited : (s : StopStruct) → Limited (stop-of s (whole 0))
-limited s = record { slow = s .slow; lower = s .lower; brief = s .brief; not-steeper-down = s .«not_steeper_down»; not-steeper-up = s .«not_steeper_up»; tw-brief = s .«tw_brief»; ti-brief = s .«ti_brief» }
 
 returned : (s : Stop) (q m : ℤ) → Floored (pos (9 * s .reaction) *ℤ s .slope) 250000000000 q → mag m < 9223372036854775808 → m ≡ maxZ (pos (1000 * s .speed) -ℤ q) (pos (1000 * s .target)) → Limited s →
     record { value : natAbs (toZ w64 (ofZ w64 m)) ≡ reached-up s; bounded : natAbs (toZ w64 (ofZ w64 m)) ≤ 5000000; reaches : 1000 * s .target ≤ natAbs (toZ w64 (ofZ w64 m)) }
@@ -81,4 +77,4 @@ returns c =
     let V0 : ℕ = c .args .self .now .target .tenths in
     let a = uncast-reached V (c .quotient-floor-loss .result) (c .args .self .now .slow) (small .0) (small .1) in
     let b = uncast-target V0 (le-trans (c .args .self .now .lower) (c .args .self .now .slow)) in
-    returned (stop-of (c .args .self .now) (whole 0)) (c .quotient-floor-loss .result) (c .max .result) f (c .max .ok) (simp (a, b) at (c .max .ensures .value)) (limited (c .args .self .now))
+    returned (stop-of (c .args .self .now) (whole 0)) (c .quotient-floor-loss .result) (c .max .result) f (c .max .ok) (simp (a, b) at (c .max .ensures .value)) (limited (c .args .self .now) (whole 0))

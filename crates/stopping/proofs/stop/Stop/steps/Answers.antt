@@ -14,6 +14,7 @@ use Rattle.braking.specs.declared.answer.Answer.the-variants.{Weak, Strong}
 use Rattle.braking.specs.declared.distances.Distances.{Distances}
 use Rattle.stopping.specs.Stops.{Stop, natural, target-steps, reached, reached-up, net, computed-control, computed-lead, computed-distances, verdict}
 use Rattle.stopping.specs.Working.{stop-of}
+use Rattle.stopping.proofs.Limits.{limited}
 use Rattle.stopping.proofs.Margin.{lawful}
 use Rattle.stopping.proofs.stop.Stop.steps.Needs as need
 use Rattle.stopping.proofs.stop.Stop.steps.Needs.{then-net-lt-LEAST-NET, else-net-lt-LEAST-NET}
@@ -65,6 +66,5 @@ returns c =
             (c .speed-reached-reached .ensures .value) (simp (is-net, fits) at (w .distances .ensures .control)) (w .distances .ensures .warning) (w .distances .ensures .nominal)
         ];
       };
-      lawful = λ exact near.
-        lawful (stop-of self exact) (record { slow = self .slow; lower = self .lower; brief = self .brief; not-steeper-down = self .«not_steeper_down»; not-steeper-up = self .«not_steeper_up»; tw-brief = self .«tw_brief»; ti-brief = self .«ti_brief» }) near;
+      lawful = λ exact near. lawful (stop-of self exact) (limited self exact) near;
     }

@@ -1,0 +1,6 @@
+mod Tables
+mod FadingSpeeds
+mod PipeTimes
+mod Lawfulness
+mod Chains
+mod Showing
