@@ -10,7 +10,11 @@ impl Question {
     pub fn ask(self, top: TopSpeed) -> Result<Approach, Refusal>
         ensures { λ r. ⌜ Asking (top .speed .tenths) (question-of self) r ⌝ }
     {
-        let Question { speed, target, grade } = self;
+        let Question {
+            speed,
+            target,
+            grade,
+        } = self;
         if speed.tenths > top.speed.tenths || target.tenths > top.speed.tenths {
             return Err(Refusal::TooFast);
         }
@@ -20,7 +24,11 @@ impl Question {
         if speed.tenths <= target.tenths {
             return Err(Refusal::NotBinding);
         }
-        Ok(Approach { speed, target, grade })
+        Ok(Approach {
+            speed,
+            target,
+            grade,
+        })
     }
 }
 

@@ -6,6 +6,7 @@ mod distances;
 mod question;
 mod refusal;
 mod top_speed;
+
 pub use answer::Answer;
 pub use approach::Approach;
 pub use braking_model::BrakingModel;

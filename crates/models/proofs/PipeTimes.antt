@@ -1,8 +1,7 @@
--- The times of the brake pipe and the reaction time are bounded, and exact in ticks.
-use mathlib.Core.Path.{_≡_, refl, ap}
-use mathlib.Core.Bool.{true, false, cond, _&&_}
-use Prim.Native.Nat.{ℕ, _+_, _-_, _*_, _/_, _%_, max, _≤_}
-use native.Mathlib.Nat.{mul-le-mul, div-add-mod'}
+-- The times of the brake pipe and the reaction time are bounded.
+use mathlib.Core.Bool.{_&&_}
+use Prim.Native.Nat.{ℕ, _+_, _-_, _*_, max, _≤_}
+use native.Mathlib.Nat.{mul-le-mul}
 use native.Mathlib.Omega.{arith}
 use lib.Dec.{ltb}
 use Rattle.std.proofs.shelf.Tests.{cond-both}
@@ -31,13 +30,9 @@ pipe-length-bounded Train Goods length h = h
 pipe-length-bounded Fixed Passenger length h = omega arith
 pipe-length-bounded Fixed Goods length h = omega arith
 
-pub pipe-time-bounded : (brake : Service) (n ep : ℕ) → n ≤ 1000 → pipe-time-by brake n ep ≤ 1850000000
+pub pipe-time-bounded : (brake : Service) (n ep : ℕ) → n ≤ 1000 → pipe-time-by brake n ep ≤ 18500000
 pipe-time-bounded Passenger n ep h = omega (arith, filled-square n ep h)
 pipe-time-bounded Goods n ep h = omega (arith, filled-square n ep h, square-small n h)
-
-pub pipe-time-hundreds : (brake : Service) (n ep : ℕ) → pipe-time-by brake n ep % 100 ≡ 0
-pipe-time-hundreds Passenger n ep = omega arith
-pipe-time-hundreds Goods n ep = omega arith
 
 near-share-small : (train brake : Service) → near-share train brake ≤ 130
 near-share-small Passenger Passenger = omega arith
@@ -53,12 +48,6 @@ pipe-share-small Etcs v V V0 = omega arith
 delay-small : (m : Model) → delay m ≤ 100000000
 delay-small Scmt = omega arith
 delay-small Etcs = omega arith
-
--- a share in hundredths of a multiple of 100 is whole
-pub whole-share : (share n : ℕ) → n % 100 ≡ 0 → 100 * (share * n / 100) ≡ share * n
-whole-share share n h =
-    let k : n ≡ n / 100 * 100 = omega (arith, div-add-mod' n 100) in
-    omega (arith, ap (λ x. share * x) k)
 
 pub reaction-bounded : (m : Model) (v : Values) (V V0 : ℕ) → Limits v → reaction-time m v V V0 ≤ 6000000000
 unfolding reaction-time

@@ -1,7 +1,7 @@
 -- The formulas of the two models, over the values of a sheet. V is the speed and V0 the target speed, in tenths of km/h.
 use mathlib.Core.Bool.{Bool, cond, _&&_}
 use mathlib.Core.List.{List, [], _∷_}
-use Prim.Native.Nat.{ℕ, _+_, _-_, _*_, _/_, max}
+use Prim.Native.Nat.{ℕ, _+_, _-_, _*_, max}
 use lib.Dec.{ltb}
 use Rattle.units.specs.Fractions.{Fraction, whole, ratio}
 use Rattle.sheet.specs.declared.words.Model.{Model}
@@ -29,15 +29,15 @@ pipe-length Train Goods length = length
 pipe-length Fixed Passenger length = 650
 pipe-length Fixed Goods length = 1000
 
--- 3.5 s and 0.15 s times the square of n / 100, in ticks.
+-- tV: 3.5 s and 0.15 s times the square of n / 100, in millionths of a second.
 abbrev pub passenger-time : ℕ → ℕ
-passenger-time n = 350000000 + 1500 * (n * n)
+passenger-time n = 3500000 + 15 * (n * n)
 
--- 13.5 s and 0.04 s times the square of n / 100, in ticks.
+-- tM: 13.5 s and 0.04 s times the square of n / 100, in millionths of a second.
 abbrev pub goods-time : ℕ → ℕ
-goods-time n = 1350000000 + 400 * (n * n)
+goods-time n = 13500000 + 4 * (n * n)
 
--- The time of a pipe of N m by the brake, where the electro-pneumatic brake works (ep 1) or not (ep 0).
+-- The time of a pipe of n m by the brake, where the electro-pneumatic brake works (ep 1) or not (ep 0).
 abbrev pub pipe-time-by : Service → ℕ → ℕ → ℕ
 pipe-time-by Passenger n ep = passenger-time (n * (1 - ep))
 pipe-time-by Goods n ep = max (passenger-time (n * (1 - ep))) (goods-time n)
@@ -78,9 +78,9 @@ abbrev pub delay : Model → ℕ
 delay Scmt = 70000000
 delay Etcs = 100000000
 
--- T, in ticks.
+-- T, in ticks: a hundredth of a millionth of a second is a tick, so that nothing is rounded.
 unfoldable pub reaction-time : Model → Values → (V V0 : ℕ) → ℕ
-reaction-time m v V V0 = pipe-share m v V V0 * pipe-time v (counted-ep m v) / 100 + delay m
+reaction-time m v V V0 = pipe-share m v V V0 * pipe-time v (counted-ep m v) + delay m
 
 -- The deceleration of the brake before its factors, in units.
 abbrev pub start : ℕ → ℕ

@@ -25,7 +25,10 @@ pub(crate) fn fading(vl: u64, speed: u64) -> Factor
     ensures { λ r. ⌜ Is (cond (ltb vl speed) (ratio (100000 - 21 * (speed - vl)) 100000) (whole 1)) r ⌝ }
 {
     if speed > vl {
-        Factor { over: 100_000 - numbers::FADING * (speed - vl), under: 100_000 }
+        Factor {
+            over: 100_000 - numbers::FADING * (speed - vl),
+            under: 100_000,
+        }
     } else {
         ONE
     }
@@ -36,7 +39,10 @@ pub(crate) fn counted(kr: u16) -> Factor
     requires { ⌜ kr ≤ 150 ⌝ }
     ensures { λ r. ⌜ Is (ratio kr 100) r ⌝ }
 {
-    Factor { over: u64::from(kr), under: 100 }
+    Factor {
+        over: u64::from(kr),
+        under: 100,
+    }
 }
 
 // At high speed.
@@ -45,7 +51,10 @@ pub(crate) fn faster(speed: u64) -> Factor
     ensures { λ r. ⌜ Is (cond (ltb 1500 speed) (fast speed) (whole 1)) r ⌝ }
 {
     if speed > numbers::FAST {
-        Factor { over: 8_500 + speed, under: 10_000 }
+        Factor {
+            over: 8_500 + speed,
+            under: 10_000,
+        }
     } else {
         ONE
     }
@@ -56,7 +65,10 @@ pub(crate) fn fastest(speed: u64) -> Factor
     ensures { λ r. ⌜ Is (cond (ltb 2600 speed) (ratio 80 100) (whole 1)) r ⌝ }
 {
     if speed > numbers::VERY_FAST {
-        Factor { over: numbers::VERY_FAST_SHARE, under: 100 }
+        Factor {
+            over: numbers::VERY_FAST_SHARE,
+            under: 100,
+        }
     } else {
         ONE
     }
@@ -68,5 +80,8 @@ pub(crate) fn targeting(speed: u64, target: u64) -> Factor
     requires lower { ⌜ target < speed ⌝ }
     ensures { λ r. ⌜ Is (targeted speed target) r ⌝ }
 {
-    Factor { over: 100 * speed - numbers::TARGET_SHARE * target, under: 100 * speed }
+    Factor {
+        over: 100 * speed - numbers::TARGET_SHARE * target,
+        under: 100 * speed,
+    }
 }

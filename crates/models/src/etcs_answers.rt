@@ -35,7 +35,9 @@ impl Etcs {
     pub fn new(sheet: &Admitted) -> Etcs
         ensures { λ r. ⌜ r .values ≡ now (sheet .entry) .values ⌝ }
     {
-        Etcs { values: sheet.values() }
+        Etcs {
+            values: sheet.values(),
+        }
     }
 
     // How long the brake takes to act.
@@ -57,7 +59,9 @@ impl Etcs {
         let starting = starting(self.values.lambda);
         let shared = counted(self.values.kr).scale(starting);
         let targeted = targeting(approach.speed.tenths, approach.target.tenths).scale(shared);
-        Deceleration { units: targeted as i64 }
+        Deceleration {
+            units: targeted as i64,
+        }
     }
 
     // The steps from a question to its answer, or why it is turned down.
@@ -65,7 +69,12 @@ impl Etcs {
         ensures { λ r. ⌜ Shown EtcsName (now (self .entry) .values) (question-of question) r ⌝ }
     {
         let approach = question.ask(self.top_speed())?;
-        Ok(work_out(approach, &self.values, self.reaction_time(approach), self.braking(approach)))
+        Ok(work_out(
+            approach,
+            &self.values,
+            self.reaction_time(approach),
+            self.braking(approach),
+        ))
     }
 }
 
@@ -77,7 +86,9 @@ pub impl BrakingModel for Etcs as EtcsBraking {
             Regime::Operation => 3_300,
             Regime::Trial => 4_000,
         };
-        TopSpeed { speed: Speed { tenths } }
+        TopSpeed {
+            speed: Speed { tenths },
+        }
     }
 
     fn answer(&self, question: Question) -> Result<Answer, Refusal> {

@@ -7,5 +7,6 @@ pub struct Factor {
     pub under: u64,
     ghost above: { 0 < under },
     ghost small: { over ≤ 1000000 },
+    ghost not_fine: { under ≤ 1000000 },
     ghost at_most_two: { over ≤ 2 * under },
 }

@@ -10,6 +10,7 @@ mod scmt_answers;
 mod sheet_answers;
 mod sheet_model;
 mod working;
+
 pub use etcs::Etcs;
 pub use etcs_answers::EtcsBraking;
 pub use scmt::Scmt;

@@ -1,5 +1,5 @@
 ghost use mathlib.Core.Path.{_≡_};
-ghost use Prim.Native.Nat.{_+_, _*_, _/_, _%_, _≤_};
+ghost use Prim.Native.Nat.{_+_, _*_, _≤_};
 ghost use Rattle.models.specs.Formulas.{pipe-length, pipe-time-by, near-share, near-width, scmt-share};
 use crate::numbers;
 use braking::Approach;
@@ -20,36 +20,34 @@ pub(crate) fn pipe_length(choice: LengthChoice, brake: Service, length: u16) -> 
     }
 }
 
-// The time until a pipe of so many m has carried the braking to its end.
-pub(crate) fn pipe_time(brake: Service, length: u64, ep: u16) -> Time
+// The time until a pipe of so many m has carried the braking to its end, in millionths of a second.
+pub(crate) fn pipe_time(brake: Service, length: u64, ep: u16) -> u64
     requires short { ⌜ length ≤ 1000 ⌝ }
     requires ep { ⌜ ep ≤ 1 ⌝ }
-    ensures value { λ r. ⌜ r .ticks ≡ pipe-time-by brake length ep ⌝ }
-    ensures bounded { λ r. ⌜ r .ticks ≤ 1850000000 ⌝ }
-    ensures hundreds { λ r. ⌜ r .ticks % 100 ≡ 0 ⌝ }
+    ensures value { λ r. ⌜ r ≡ pipe-time-by brake length ep ⌝ }
+    ensures bounded { λ r. ⌜ r ≤ 18500000 ⌝ }
 {
     let filled = length * (1 - u64::from(ep));
-    let passenger = numbers::PASSENGER_FILL + numbers::PASSENGER_FILL_SQUARE * (filled * filled);
+    let passenger = numbers::PASSENGER_PIPE + numbers::PASSENGER_PIPE_SQUARE * (filled * filled);
     match brake {
-        Service::Passenger => Time { ticks: passenger },
-        Service::Goods => {
-            let goods = numbers::GOODS_FILL + numbers::GOODS_FILL_SQUARE * (length * length);
-            Time { ticks: passenger.max(goods) }
-        }
+        Service::Passenger => passenger,
+        Service::Goods => passenger.max(
+            numbers::GOODS_PIPE + numbers::GOODS_PIPE_SQUARE * (length * length),
+        ),
     }
 }
 
-// A share of the pipe time, in hundredths, and the delay of the equipment. Nothing is rounded off.
-pub(crate) fn delayed(share: u64, pipe: Time, delay: u64) -> Time
+// A share of the pipe time, in hundredths, and the delay of the equipment, in ticks: a hundredth of a millionth of a second is a tick.
+pub(crate) fn delayed(share: u64, pipe: u64, delay: u64) -> Time
     requires share { ⌜ share ≤ 200 ⌝ }
-    requires pipe { ⌜ pipe .ticks ≤ 1850000000 ⌝ }
-    requires hundreds { ⌜ pipe .ticks % 100 ≡ 0 ⌝ }
+    requires pipe { ⌜ pipe ≤ 18500000 ⌝ }
     requires delay { ⌜ delay ≤ 500000000 ⌝ }
-    ensures value { λ r. ⌜ r .ticks ≡ share * pipe .ticks / 100 + delay ⌝ }
-    ensures exact { λ r. ⌜ 100 * r .ticks ≡ share * pipe .ticks + 100 * delay ⌝ }
+    ensures value { λ r. ⌜ r .ticks ≡ share * pipe + delay ⌝ }
     ensures bounded { λ r. ⌜ r .ticks ≤ 6000000000 ⌝ }
 {
-    Time { ticks: share * pipe.ticks / 100 + delay }
+    Time {
+        ticks: share * pipe + delay,
+    }
 }
 
 // The share of the pipe time that scmt counts near the target speed, and how far above the target speed that reaches.
@@ -61,7 +59,10 @@ fn near_target(train: Service, brake: Service) -> (u64, u64)
 {
     match (train, brake) {
         (Service::Passenger, _) => (0, numbers::PASSENGER_WIDTH),
-        (Service::Goods, Service::Passenger) => (numbers::GOODS_NEAR_SHARE, numbers::GOODS_TRAIN_WIDTH),
+        (Service::Goods, Service::Passenger) => (
+            numbers::GOODS_NEAR_SHARE,
+            numbers::GOODS_TRAIN_WIDTH,
+        ),
         (Service::Goods, Service::Goods) => (numbers::GOODS_NEAR_SHARE, numbers::GOODS_BRAKE_WIDTH),
     }
 }

@@ -37,7 +37,30 @@ use units::Time;
 
 // VL at lambda 45, 50 and so on up to 160.
 const FADING_SPEEDS: [u16; 24] = [
-    873, 914, 954, 991, 1027, 1061, 1094, 1126, 1157, 1186, 1215, 1243, 1270, 1297, 1323, 1348, 1372, 1396, 1420, 1443, 1466, 1488, 1510, 1531,
+    873,
+    914,
+    954,
+    991,
+    1027,
+    1061,
+    1094,
+    1126,
+    1157,
+    1186,
+    1215,
+    1243,
+    1270,
+    1297,
+    1323,
+    1348,
+    1372,
+    1396,
+    1420,
+    1443,
+    1466,
+    1488,
+    1510,
+    1531,
 ];
 
 impl Scmt {
@@ -45,7 +68,9 @@ impl Scmt {
     pub fn new(sheet: &Admitted) -> Scmt
         ensures { λ r. ⌜ r .values ≡ now (sheet .entry) .values ⌝ }
     {
-        Scmt { values: sheet.values() }
+        Scmt {
+            values: sheet.values(),
+        }
     }
 
     // VL, the speed above which the brake fades.
@@ -54,7 +79,9 @@ impl Scmt {
         ensures rule { λ r. ⌜ Greatest (now (self .entry) .values .lambda) (r .tenths) ⌝ }
     {
         let entry = (self.values.lambda - 45) / 5;
-        Speed { tenths: u64::from(FADING_SPEEDS[entry as usize]) }
+        Speed {
+            tenths: u64::from(FADING_SPEEDS[entry as usize]),
+        }
     }
 
     // How long the brake takes to act.
@@ -81,7 +108,9 @@ impl Scmt {
         let fast = faster(speed).scale(shared);
         let very_fast = fastest(speed).scale(fast);
         let targeted = targeting(speed, approach.target.tenths).scale(very_fast);
-        Deceleration { units: targeted as i64 }
+        Deceleration {
+            units: targeted as i64,
+        }
     }
 
     // The steps from a question to its answer, or why it is turned down.
@@ -89,7 +118,12 @@ impl Scmt {
         ensures { λ r. ⌜ Shown ScmtName (now (self .entry) .values) (question-of question) r ⌝ }
     {
         let approach = question.ask(self.top_speed())?;
-        Ok(work_out(approach, &self.values, self.reaction_time(approach), self.braking(approach)))
+        Ok(work_out(
+            approach,
+            &self.values,
+            self.reaction_time(approach),
+            self.braking(approach),
+        ))
     }
 }
 
@@ -101,7 +135,9 @@ pub impl BrakingModel for Scmt as ScmtBraking {
             Regime::Operation => 2_600,
             Regime::Trial => 3_100,
         };
-        TopSpeed { speed: Speed { tenths } }
+        TopSpeed {
+            speed: Speed { tenths },
+        }
     }
 
     fn answer(&self, question: Question) -> Result<Answer, Refusal> {

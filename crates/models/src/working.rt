@@ -15,7 +15,12 @@ use units::Deceleration;
 use units::Time;
 
 // The steps of an approach, from the reaction time and the deceleration of the brake.
-pub(crate) fn work_out(approach: Approach, values: &Values, reaction: Time, braking: Deceleration) -> Steps
+pub(crate) fn work_out(
+    approach: Approach,
+    values: &Values,
+    reaction: Time,
+    braking: Deceleration,
+) -> Steps
     requires tw { ⌜ now values .tw ≤ 100 ⌝ }
     requires ti { ⌜ now values .ti ≤ 100 ⌝ }
     requires brief { ⌜ reaction .ticks ≤ 6000000000 ⌝ }

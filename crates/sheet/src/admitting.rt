@@ -15,10 +15,16 @@ impl Draft {
     {
         let Draft { values } = self;
         if !values.in_ranges() {
-            return Err(Rejected { refusal: Refusal::OutOfRange, draft: Draft { values } });
+            return Err(Rejected {
+                refusal: Refusal::OutOfRange,
+                draft: Draft { values },
+            });
         }
         if !values.brake_allowed() {
-            return Err(Rejected { refusal: Refusal::GoodsBrake, draft: Draft { values } });
+            return Err(Rejected {
+                refusal: Refusal::GoodsBrake,
+                draft: Draft { values },
+            });
         }
         Ok(Admitted { values })
     }

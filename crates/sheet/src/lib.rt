@@ -7,6 +7,7 @@ mod refusal;
 mod refusal_number;
 mod values;
 mod words;
+
 pub use admitted::Admitted;
 pub use draft::Draft;
 pub use draft::Rejected;

@@ -14,7 +14,7 @@ use Rattle.units.proofs.Quotients.{rounded-up}
 use Rattle.braking.specs.Meaning.{Verdict, Three, weak, strong}
 use Rattle.braking.specs.Laws.{Within, Close, Strong, Sound}
 use Rattle.stopping.specs.Stops.{Stop, Limited, Near, natural, target-steps, reached, reached-up, net, net-exact, net-positive, run, braked, lead, exact-control, exact-distances, computed-control, computed-lead, computed-distances, verdict}
-use Rattle.stopping.specs.Working.{Lawful}
+use Rattle.stopping.specs.Working.{Lawful, Uncut}
 use Rattle.stopping.proofs.Terms.{sum-within, within-more, speed-term, braking-term}
 use Rattle.stopping.proofs.Reaching.{reached-not-below, reached-up-bounded}
 
@@ -142,3 +142,6 @@ module _ (s : Stop) (limits : Limited s) (near : Near (s .braking) (s .rounded))
 
   pub lawful : Lawful s
   lawful = record { weak-below = weak-below; strong-above = strong-above; sound = sound }
+
+  pub uncut : Uncut s
+  uncut = record { not-below-target = omega (arith, reached-not-below s); net-whole = d-is; net-above = d-positive }

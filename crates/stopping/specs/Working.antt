@@ -1,13 +1,13 @@
 -- What the steps of a stop are, and that they are lawful.
 use mathlib.Core.Path.{_≡_}
-use Prim.Native.Nat.{ℕ, _*_}
+use Prim.Native.Nat.{ℕ, _*_, _<_}
 use lib.IntN.{pos}
 use lib.Signed.{_<ℤ_, _≤ℤ_}
-use Rattle.units.specs.Fractions.{Fraction}
+use Rattle.units.specs.Fractions.{Fraction, whole, _≼_}
 use Rattle.braking.specs.Meaning.{weak}
 use Rattle.braking.specs.Laws.{Strong, Sound}
 use Rattle.braking.specs.Answers.{Says}
-use Rattle.stopping.specs.Stops.{Stop, natural, reached-up, net, net-exact, verdict, Limited, Near}
+use Rattle.stopping.specs.Stops.{Stop, natural, target-steps, reached, reached-up, net, net-exact, net-positive, verdict, Limited, Near}
 use Rattle.stopping.specs.declared.stop.Stop.{Stop as StopStruct}
 use Rattle.stopping.specs.declared.steps.Steps.{Steps}
 
@@ -37,3 +37,9 @@ pub record Lawful (s : Stop) : Type 0 where
   pub weak-below : net-exact s .over <ℤ pos (500000 * net-exact s .under) → verdict s ≡ weak
   pub strong-above : pos (500009 * net-exact s .under) ≤ℤ net-exact s .over → Strong (verdict s)
   pub sound : Sound (verdict s)
+
+-- The exact distances are the formulas with nothing cut off: b is never below the target speed, and wherever there are distances d is above 0.
+pub record Uncut (s : Stop) : Type 0 where
+  pub not-below-target : whole (target-steps s) ≼ reached s
+  pub net-whole : pos 500000 ≤ℤ net s → pos (net-positive s .over) ≡ net-exact s .over
+  pub net-above : pos 500000 ≤ℤ net s → 0 < net-positive s .over

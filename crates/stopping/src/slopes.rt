@@ -25,5 +25,7 @@ pub fn slope(approach: Approach) -> Deceleration
     ensures not_below { λ r. ⌜ negsuc 4199999 ≤ℤ r .units ⌝ }
     ensures not_above { λ r. ⌜ r .units ≤ℤ pos 4200000 ⌝ }
 {
-    Deceleration { units: share(approach.grade) * approach.grade.thousandths * 981 }
+    Deceleration {
+        units: share(approach.grade) * approach.grade.thousandths * 981,
+    }
 }

@@ -10,7 +10,6 @@ use lib.Signed.{_<ℤ_, _≤ℤ_}
 infixl 65 _⊕_ _⊖_
 infixl 70 _⊗_ _⊘_
 infix 50 _≼_ _≺_ _≈_
-
 -- A whole number at or above 0, over a whole number above 0.
 pub record Fraction : Type 0 where
   pub over : ℕ

@@ -1,6 +1,7 @@
 mod divisor;
 mod quantities;
 mod rounding;
+
 pub use divisor::Divisor;
 pub use quantities::Deceleration;
 pub use quantities::Distance;

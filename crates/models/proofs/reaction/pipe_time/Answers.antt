@@ -20,7 +20,6 @@ returns-in-Passenger c =
     record {
       value = rw (is, e);
       bounded = omega (arith, filled-square (c .args .length) (c .from .result) (c .pre .short));
-      hundreds = omega arith;
     }
 
 pub returns-in-Goods : need.returns-in-Goods
@@ -31,5 +30,4 @@ returns-in-Goods c =
     record {
       value = rw (is, m, e);
       bounded = omega (arith, m, filled-square (c .args .length) (c .from .result) (c .pre .short), square-small (c .args .length) (c .pre .short));
-      hundreds = omega (arith, m);
     }

@@ -17,5 +17,5 @@ returns c =
     let shared = scaled-is _ _ _ _ _ (c .counted .ensures) (c .starting-starting .ensures .value) (c .scale-shared .ensures .value) in
     let reduced = scaled-is _ _ _ _ _ (c .targeting .ensures) shared (c .scale-targeted .ensures .value) in
     let small : c .scale-targeted .result ≤ 1000000000 =
-      omega (arith, c .starting-starting .ensures .bounded, c .scale-shared .ensures .bounded, c .scale-targeted .ensures .bounded) in
+    omega (arith, c .starting-starting .ensures .bounded, c .scale-shared .ensures .bounded, c .scale-targeted .ensures .bounded) in
     record { value = small-cast _ _ small (reduced ∙ sym (two-of-five (start (c .args .self .now .values .lambda)) (ratio (c .args .self .now .values .kr) 100) (targeted (c .args .approach .speed .tenths) (c .args .approach .target .tenths)))); bounded = omega (arith, ints) }

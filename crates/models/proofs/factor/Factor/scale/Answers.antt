@@ -8,7 +8,7 @@ pub returns : need.returns
 returns c = record {
   value = c .quotient-down .ensures .value;
   bounded =
-    le-of-mul-le-mul-right {k = c .args .self .under}
-    (omega (arith, c .quotient-down .ensures .meaning .within, mul-le-mul-left (c .args .units) (c .args .self .«at_most_two»)))
-    (c .args .self .above);
+      le-of-mul-le-mul-right {k = c .args .self .under}
+      (omega (arith, c .quotient-down .ensures .meaning .within, mul-le-mul-left (c .args .units) (c .args .self .«at_most_two»)))
+      (c .args .self .above);
 }

@@ -23,24 +23,39 @@ mul-steps-2 c = omega (arith, mul-le-mul (c .pre .bounded) (c .pre .bounded))
 
 pub add-control : need.add-control
 add-control c =
-    omega (arith, c .quotient-up-reaction .ensures .value, c .quotient-up-braking .ensures .value,
+    omega (
+      arith,
+      c .quotient-up-reaction .ensures .value,
+      c .quotient-up-braking .ensures .value,
       reaction-small (c .args .self .now .reaction .ticks) (c .args .reached .steps) (c .args .self .now .brief) (c .pre .bounded),
-      braking-small (c .args .reached .steps) (1000 * c .args .self .now .target .tenths) (162 * c .args .net) (c .pre .bounded))
+      braking-small (c .args .reached .steps) (1000 * c .args .self .now .target .tenths) (162 * c .args .net) (c .pre .bounded),
+    )
 
 pub add-warning : need.add-warning
 add-warning c =
     let tw-brief : c .from .result ≤ 100 = omega (arith, c .from .ensures, c .args .self .now .«tw_brief») in
-    omega (arith, c .quotient-up-reaction .ensures .value, c .quotient-up-braking .ensures .value, c .quotient-up .ensures .value,
+    omega (
+      arith,
+      c .quotient-up-reaction .ensures .value,
+      c .quotient-up-braking .ensures .value,
+      c .quotient-up .ensures .value,
       reaction-small (c .args .self .now .reaction .ticks) (c .args .reached .steps) (c .args .self .now .brief) (c .pre .bounded),
       braking-small (c .args .reached .steps) (1000 * c .args .self .now .target .tenths) (162 * c .args .net) (c .pre .bounded),
-      lead-small (c .from .result) (c .args .reached .steps) tw-brief (c .pre .bounded))
+      lead-small (c .from .result) (c .args .reached .steps) tw-brief (c .pre .bounded),
+    )
 
 pub add-nominal : need.add-nominal
 add-nominal c =
     let tw-brief : c .from .result ≤ 100 = omega (arith, c .from .ensures, c .args .self .now .«tw_brief») in
     let ti-brief : c .from-2 .result ≤ 100 = omega (arith, c .from-2 .ensures, c .args .self .now .«ti_brief») in
-    omega (arith, c .quotient-up-reaction .ensures .value, c .quotient-up-braking .ensures .value, c .quotient-up .ensures .value, c .quotient-up-2 .ensures .value,
+    omega (
+      arith,
+      c .quotient-up-reaction .ensures .value,
+      c .quotient-up-braking .ensures .value,
+      c .quotient-up .ensures .value,
+      c .quotient-up-2 .ensures .value,
       reaction-small (c .args .self .now .reaction .ticks) (c .args .reached .steps) (c .args .self .now .brief) (c .pre .bounded),
       braking-small (c .args .reached .steps) (1000 * c .args .self .now .target .tenths) (162 * c .args .net) (c .pre .bounded),
       lead-small (c .from .result) (c .args .reached .steps) tw-brief (c .pre .bounded),
-      lead-small (c .from-2 .result) (c .args .reached .steps) ti-brief (c .pre .bounded))
+      lead-small (c .from-2 .result) (c .args .reached .steps) ti-brief (c .pre .bounded),
+    )

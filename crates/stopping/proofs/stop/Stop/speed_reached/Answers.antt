@@ -48,7 +48,7 @@ returned s q m f fits e limits =
     let r : ℕ = natAbs (toZ w64 (ofZ w64 m)) in
     let reaches : 1000 * s .target ≤ r = omega (arith, ints, is, low) in
     let either : (pos r ≡ pos (1000 * s .speed) -ℤ q) ⊎ (r ≡ 1000 * s .target) =
-      elim (one-of-two (pos (1000 * s .speed) -ℤ q) (pos (1000 * s .target)) m e) [ inl a ↦ inl (is ∙ a) | inr b ↦ inr (omega (arith, ints, is ∙ b)) ] in
+    elim (one-of-two (pos (1000 * s .speed) -ℤ q) (pos (1000 * s .target)) m e) [ inl a ↦ inl (is ∙ a) | inr b ↦ inr (omega (arith, ints, is ∙ b)) ] in
     let value = is-reached-up s q r f reaches (rw is least) either in
     record { value = value; bounded = rw value (reached-up-bounded s limits); reaches = reaches }
 

@@ -15,7 +15,8 @@ use Rattle.braking.specs.declared.distances.Distances.{Distances}
 use Rattle.stopping.specs.Stops.{Stop, natural, target-steps, reached, reached-up, net, computed-control, computed-lead, computed-distances, verdict}
 use Rattle.stopping.specs.Working.{stop-of}
 use Rattle.stopping.proofs.Limits.{limited}
-use Rattle.stopping.proofs.Margin.{lawful}
+use Rattle.stopping.proofs.Losses.{factors-lose}
+use Rattle.stopping.proofs.Margin.{lawful, uncut}
 use Rattle.stopping.proofs.stop.Stop.steps.Needs as need
 use Rattle.stopping.proofs.stop.Stop.steps.Needs.{then-net-lt-LEAST-NET, else-net-lt-LEAST-NET}
 
@@ -62,9 +63,11 @@ returns c =
         answer = elim (c .if-net-lt-LEAST-NET .came) [
           | then-net-lt-LEAST-NET w ↦ says-weak (stop-of self exact) _ (simp (is-net, fits) at (w .if-net-lt-LEAST-NET .taken)) (w .answer-is)
           | else-net-lt-LEAST-NET w ↦
-            says-strong (stop-of self exact) _ (w .distances .result) (c .speed-reached-reached .result .steps) (simp (is-net, fits) at (w .if-net-lt-LEAST-NET .left)) (w .answer-is)
-            (c .speed-reached-reached .ensures .value) (simp (is-net, fits) at (w .distances .ensures .control)) (w .distances .ensures .warning) (w .distances .ensures .nominal)
+              says-strong (stop-of self exact) _ (w .distances .result) (c .speed-reached-reached .result .steps) (simp (is-net, fits) at (w .if-net-lt-LEAST-NET .left)) (w .answer-is)
+              (c .speed-reached-reached .ensures .value) (simp (is-net, fits) at (w .distances .ensures .control)) (w .distances .ensures .warning) (w .distances .ensures .nominal)
         ];
       };
       lawful = λ exact near. lawful (stop-of self exact) (limited self exact) near;
+      uncut = λ exact near. uncut (stop-of self exact) (limited self exact) near;
+      factors = factors-lose;
     }

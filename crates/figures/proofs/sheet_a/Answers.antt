@@ -1,0 +1,6 @@
+use mathlib.Core.Path.{refl}
+use Rattle.figures.proofs.Worked.{stated}
+use Rattle.figures.proofs.sheet_a.Needs as need
+
+pub returns : need.returns
+returns c = record { values = refl; figures = stated }
