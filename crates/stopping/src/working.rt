@@ -1,7 +1,7 @@
 ghost use mathlib.Core.Path.{_≡_};
 ghost use Prim.Native.Nat.{_+_, _*_, _≤_};
 ghost use lib.IntN.{pos, _+ℤ_};
-ghost use lib.Signed.{_≤ℤ_};
+ghost use lib.Signed.{ltZ, _≤ℤ_};
 ghost use Rattle.units.specs.Fractions.{Fraction, whole};
 ghost use Rattle.stopping.specs.Factors.{Factors-lose};
 ghost use Rattle.stopping.specs.Stops.{Near, reached-up, computed-control, computed-lead, natural};
@@ -20,6 +20,13 @@ use units::quotient_up;
 // A net deceleration below this many units is weak.
 const LEAST_NET: i64 = 500_000;
 
+// Whether a net deceleration is too weak to brake by.
+fn is_weak(net: Deceleration) -> bool
+    ensures { λ r. ⌜ r ≡ ltZ (net .units) (pos 500000) ⌝ }
+{
+    net.units < LEAST_NET
+}
+
 impl Stop {
     // The steps of the stop. Whatever exact deceleration the brake's rounded one is near, the answer is the verdict on it and keeps the laws of a braking model.
     // A deceleration that is a product of factors, rounded down after each, is near by what the factors lose.
@@ -33,7 +40,7 @@ impl Stop {
         let net = Deceleration {
             units: self.braking.units + self.slope.units,
         };
-        let answer = if net.units < LEAST_NET {
+        let answer = if is_weak(net) {
             Answer::Weak
         } else {
             Answer::Strong(self.distances(reached, net.units as u64))

@@ -9,7 +9,7 @@ work-out-requires c κs =
       tw = within .tw;
       ti = within .ti;
       brief = c .reaction-time .ensures .bounded;
-      on = not-negative _ _ (c .braking .ensures .value);
+      on = not-negative (c .braking .result .units) _ (c .braking .ensures .value);
       bounded = c .braking .ensures .bounded;
     }
 

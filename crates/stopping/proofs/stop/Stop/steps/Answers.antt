@@ -18,7 +18,7 @@ use Rattle.stopping.proofs.Limits.{limited}
 use Rattle.stopping.proofs.Losses.{factors-lose}
 use Rattle.stopping.proofs.Margin.{lawful, uncut}
 use Rattle.stopping.proofs.stop.Stop.steps.Needs as need
-use Rattle.stopping.proofs.stop.Stop.steps.Needs.{then-net-lt-LEAST-NET, else-net-lt-LEAST-NET}
+use Rattle.stopping.proofs.stop.Stop.steps.Needs.{then-is-weak, else-is-weak}
 
 net-is : (b G : ℤ) → pos 0 ≤ℤ b → b ≤ℤ pos 1000000000 → negsuc 4199999 ≤ℤ G → G ≤ℤ pos 4200000 → toZ w64 (ofZ w64 (toZ w64 (ofZ w64 b) +ℤ toZ w64 (ofZ w64 G))) ≡ pos (natural b) +ℤ G
 net-is (pos n) G h k low high = omega (arith, ints)
@@ -54,16 +54,17 @@ returns c =
     let self = c .args .self .now in
     let is-net = net-is (self .braking .units) (self .slope .units) (self .«braking_on») (self .«braking_bounded») (self .«not_steeper_down») (self .«not_steeper_up») in
     let fits = net-fits (self .braking .units) (self .slope .units) (self .«braking_on») (self .«braking_bounded») (self .«not_steeper_down») (self .«not_steeper_up») in
+    let tested : c .is-weak .result ≡ ltZ (pos (natural (self .braking .units)) +ℤ self .slope .units) (pos 500000) = simp is-net at (c .is-weak .ensures) in
     record {
       worked = λ exact. record {
         reaction = refl;
         slope = refl;
         reached = c .speed-reached-reached .ensures .value;
         net = is-net;
-        answer = elim (c .if-net-lt-LEAST-NET .came) [
-          | then-net-lt-LEAST-NET w ↦ says-weak (stop-of self exact) _ (simp (is-net, fits) at (w .if-net-lt-LEAST-NET .taken)) (w .answer-is)
-          | else-net-lt-LEAST-NET w ↦
-              says-strong (stop-of self exact) _ (w .distances .result) (c .speed-reached-reached .result .steps) (simp (is-net, fits) at (w .if-net-lt-LEAST-NET .left)) (w .answer-is)
+        answer = elim (c .if-is-weak .came) [
+          | then-is-weak w ↦ says-weak (stop-of self exact) _ (sym tested ∙ w .if-is-weak .taken) (w .answer-is)
+          | else-is-weak w ↦
+              says-strong (stop-of self exact) _ (w .distances .result) (c .speed-reached-reached .result .steps) (sym tested ∙ w .if-is-weak .left) (w .answer-is)
               (c .speed-reached-reached .ensures .value) (simp (is-net, fits) at (w .distances .ensures .control)) (w .distances .ensures .warning) (w .distances .ensures .nominal)
         ];
       };
