@@ -6,16 +6,28 @@ use braking::Approach;
 use units::Deceleration;
 use units::Grade;
 
+// the shares of a grade that are counted on, in hundredths: uphill, downhill to GENTLE thousandths, and steeper
+const UPHILL_SHARE: i64 = 90;
+
+const GENTLE_SHARE: i64 = 100;
+
+const STEEP_SHARE: i64 = 110;
+
+const GENTLE: i64 = -20;
+
+// what a thousandth of grade does, in hundredths of units
+const THOUSANDTH: i64 = 981;
+
 // The share of a grade that is counted on, in hundredths.
 fn share(grade: Grade) -> i64
     ensures { λ r. ⌜ r ≡ pos (share-of (grade .thousandths)) ⌝ }
 {
     if grade.thousandths > 0 {
-        90
-    } else if grade.thousandths >= -20 {
-        100
+        UPHILL_SHARE
+    } else if grade.thousandths >= GENTLE {
+        GENTLE_SHARE
     } else {
-        110
+        STEEP_SHARE
     }
 }
 
@@ -26,6 +38,6 @@ pub fn slope(approach: Approach) -> Deceleration
     ensures not_above { λ r. ⌜ r .units ≤ℤ pos 4200000 ⌝ }
 {
     Deceleration {
-        units: share(approach.grade) * approach.grade.thousandths * 981,
+        units: share(approach.grade) * approach.grade.thousandths * THOUSANDTH,
     }
 }
