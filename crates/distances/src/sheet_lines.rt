@@ -34,7 +34,7 @@ fn length_word(choice: LengthChoice) -> &'static str {
 }
 
 // The sheet as twelve lines.
-pub fn show_sheet(rt: &LibcRuntime, values: &Values) -> io::Result<()> {
+pub(crate) fn show_sheet(rt: &LibcRuntime, values: &Values) -> io::Result<()> {
     let model = model_word(values.model);
     let regime = regime_word(values.regime);
     let train = service_word(values.train);
