@@ -1,0 +1,30 @@
+-- The items that stand in a list, the room for more, and a list that is left alone.
+use mathlib.Core.List.{List}
+use mathlib.Core.Path.{_≡_}
+use Prim.Native.Nat.{ℕ, _-_, min}
+use denote.Ref.{now}
+use lib.ListN.{length, take, drop}
+use Rattle.place_list.specs.declared.placed.Placed.{Placed}
+use Rattle.place_list.specs.declared.list.PlaceList.{PlaceList}
+
+-- The whole memory, in use or not.
+abbrev pub memory-of : {T : Type 0} → PlaceList T → List (Placed T)
+memory-of l = now (l .memory)
+
+-- The items of the list, in order: the part of the memory that is in use.
+abbrev pub sequence : {T : Type 0} → PlaceList T → List (Placed T)
+sequence l = take (l .len) (memory-of l)
+
+-- How many more items fit.
+abbrev pub room : {T : Type 0} → PlaceList T → ℕ
+room l = min (l .most) (length (memory-of l)) - l .len
+
+-- Nothing is altered: not the items, not the room, not the memory behind the items.
+pub record Unaltered {T : Type 0} (before after : PlaceList T) : Type 0 where
+  pub sequence-same : sequence after ≡ sequence before
+  pub room-same : room after ≡ room before
+  pub memory-same : memory-of after ≡ memory-of before
+
+-- Behind the items in use after a call, the memory holds what it held before the call.
+abbrev pub Rest-kept : {T : Type 0} → PlaceList T → PlaceList T → Type 0
+Rest-kept before after = drop (after .len) (memory-of after) ≡ drop (after .len) (memory-of before)

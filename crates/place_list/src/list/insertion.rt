@@ -1,0 +1,42 @@
+ghost use mathlib.Core.Path.{_≡_};
+ghost use Prim.Native.Nat.{ℕ, _+_, _<_};
+ghost use denote.Ref.{name};
+ghost use lib.ListN.{length};
+ghost use Rattle.std.specs.Results.{Cases};
+ghost use Rattle.std.specs.Vec.{made};
+ghost use Rattle.place_list.specs.declared.refusal.Refusal.the-variants.{Full};
+ghost use Rattle.place_list.specs.Insertion.{Comes-last, Put-in, placed-in};
+ghost use Rattle.place_list.specs.Membership.{One-more};
+ghost use Rattle.place_list.specs.Places.{place-of};
+ghost use Rattle.place_list.specs.Sequence.{Rest-kept, Unaltered, memory-of, room, sequence};
+use crate::list::PlaceList;
+use crate::placed::Placed;
+use crate::refusal::Refusal;
+
+impl<'a, T: Copy> PlaceList<'a, T> {
+    // Puts an item behind those whose place is not greater. Where the list is full it is left alone.
+    pub fn insert(&mut self, new: Placed<T>) -> Result<(), Refusal>
+        ensures refused { λ r. ⌜ Cases r (λ _. 0 < room (now (self .entry))) (λ e. (e ≡ Full) × (room (now (self .entry)) ≡ 0)) ⌝ }
+        ensures result { λ r. ⌜ Cases r (λ _. sequence (now (self .exit)) ≡ placed-in place-of new (sequence (now (self .entry)))) (λ _. Unaltered (now (self .entry)) (now (self .exit))) ⌝ }
+        ensures stands { λ r. ⌜ made r (λ _. Put-in place-of new (sequence (now (self .entry))) (sequence (now (self .exit)))) ⌝ }
+        ensures members { λ r. ⌜ made r (λ _. One-more new (sequence (now (self .entry))) (sequence (now (self .exit)))) ⌝ }
+        ensures turns { λ r. ⌜ made r (λ _. Comes-last place-of new (sequence (now (self .entry))) (sequence (now (self .exit)))) ⌝ }
+        ensures room { λ r. ⌜ made r (λ _. room (now (self .exit)) + 1 ≡ room (now (self .entry))) ⌝ }
+        ensures rest { λ _. ⌜ Rest-kept (now (self .entry)) (now (self .exit)) ⌝ }
+        ensures most { λ _. ⌜ now (self .exit) .most ≡ now (self .entry) .most ⌝ }
+        ensures memory { λ _. ⌜ length (memory-of (now (self .exit))) ≡ length (memory-of (now (self .entry))) ⌝ }
+        ensures lent { λ _. ⌜ name (now (self .exit) .memory) ≡ name (now (self .entry) .memory) ⌝ }
+    {
+        if self.room() == 0 {
+            return Err(Refusal::Full);
+        }
+        let mut at = self.len;
+        while at > 0 && new.place.millimetres < self.memory[at - 1].place.millimetres {
+            self.memory[at] = self.memory[at - 1];
+            at -= 1;
+        }
+        self.memory[at] = new;
+        self.len += 1;
+        Ok(())
+    }
+}

@@ -1,0 +1,37 @@
+ghost use mathlib.Core.Path.{_≡_};
+ghost use Prim.Native.Nat.{ℕ, _+_, _<_, _≤_};
+ghost use denote.Ref.{name};
+ghost use lib.ListN.{getD, length};
+ghost use Rattle.std.specs.Options.{Cases};
+ghost use Rattle.std.specs.shelf.Lists.{removed};
+ghost use Rattle.place_list.specs.Membership.{One-more};
+ghost use Rattle.place_list.specs.Removal.{Taken-from};
+ghost use Rattle.place_list.specs.Sequence.{Rest-kept, Unaltered, memory-of, room, sequence};
+use crate::list::PlaceList;
+use crate::placed::Placed;
+
+impl<'a, T: Copy> PlaceList<'a, T> {
+    // Takes out the item at the index `at`, and closes the gap. Where none stands there the list is left alone.
+    pub fn take_out(&mut self, at: usize) -> Option<Placed<T>>
+        ensures none { λ r. ⌜ Cases r (length (sequence (now (self .entry))) ≤ at) (λ _. at < length (sequence (now (self .entry)))) ⌝ }
+        ensures taken { λ r. ⌜ Cases r (Unit {0}) (λ x. x ≡ getD (sequence (now (self .entry))) at x) ⌝ }
+        ensures result { λ r. ⌜ Cases r (Unaltered (now (self .entry)) (now (self .exit))) (λ _. sequence (now (self .exit)) ≡ removed (sequence (now (self .entry))) at) ⌝ }
+        ensures stood { λ r. ⌜ Cases r (Unit {0}) (λ x. Taken-from at x (sequence (now (self .entry))) (sequence (now (self .exit)))) ⌝ }
+        ensures members { λ r. ⌜ Cases r (Unit {0}) (λ x. One-more x (sequence (now (self .exit))) (sequence (now (self .entry)))) ⌝ }
+        ensures room { λ r. ⌜ Cases r (Unit {0}) (λ _. room (now (self .exit)) ≡ room (now (self .entry)) + 1) ⌝ }
+        ensures rest { λ _. ⌜ Rest-kept (now (self .entry)) (now (self .exit)) ⌝ }
+        ensures most { λ _. ⌜ now (self .exit) .most ≡ now (self .entry) .most ⌝ }
+        ensures memory { λ _. ⌜ length (memory-of (now (self .exit))) ≡ length (memory-of (now (self .entry))) ⌝ }
+        ensures lent { λ _. ⌜ name (now (self .exit) .memory) ≡ name (now (self .entry) .memory) ⌝ }
+    {
+        if at >= self.len {
+            return None;
+        }
+        let taken = self.memory[at];
+        for i in at..self.len - 1 {
+            self.memory[i] = self.memory[i + 1];
+        }
+        self.len -= 1;
+        Some(taken)
+    }
+}
