@@ -15,9 +15,13 @@ memory-of l = now (l .memory)
 abbrev pub sequence : {T : Type 0} → PlaceList T → List (Placed T)
 sequence l = take (l .len) (memory-of l)
 
+-- How many items fit: as many as the memory holds, and no more than the most.
+abbrev pub capacity : {T : Type 0} → PlaceList T → ℕ
+capacity l = min (l .most) (length (memory-of l))
+
 -- How many more items fit.
 abbrev pub room : {T : Type 0} → PlaceList T → ℕ
-room l = min (l .most) (length (memory-of l)) - l .len
+room l = capacity l - l .len
 
 -- Nothing is altered: not the items, not the room, not the memory behind the items.
 pub record Unaltered {T : Type 0} (before after : PlaceList T) : Type 0 where

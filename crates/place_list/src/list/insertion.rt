@@ -27,7 +27,7 @@ impl<'a, T: Copy> PlaceList<'a, T> {
         ensures memory { λ _. ⌜ length (memory-of (now (self .exit))) ≡ length (memory-of (now (self .entry))) ⌝ }
         ensures lent { λ _. ⌜ name (now (self .exit) .memory) ≡ name (now (self .entry) .memory) ⌝ }
     {
-        if self.room() == 0 {
+        if self.len >= self.capacity() {
             return Err(Refusal::Full);
         }
         let mut at = self.len;

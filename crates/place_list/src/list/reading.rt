@@ -3,7 +3,7 @@ ghost use Prim.Native.Nat.{ℕ};
 ghost use lib.ListN.{length};
 ghost use Rattle.place_list.specs.Order.{Ascending};
 ghost use Rattle.place_list.specs.Places.{place-of};
-ghost use Rattle.place_list.specs.Sequence.{room, sequence};
+ghost use Rattle.place_list.specs.Sequence.{capacity, room, sequence};
 use crate::list::PlaceList;
 use crate::placed::Placed;
 
@@ -27,6 +27,13 @@ impl<'a, T: Copy> PlaceList<'a, T> {
     pub fn room(&self) -> usize
         ensures { λ r. ⌜ r ≡ room (now (self .entry)) ⌝ }
     {
-        self.most.min(self.memory.len()) - self.len
+        self.capacity() - self.len
+    }
+
+    // How many items fit, with those that stand in the list.
+    pub(super) fn capacity(&self) -> usize
+        ensures { λ r. ⌜ r ≡ capacity (now (self .entry)) ⌝ }
+    {
+        self.most.min(self.memory.len())
     }
 }

@@ -19,7 +19,7 @@ pub loop-at-holds : need.loop-at-holds
 loop-at-holds g c =
     let old = c .args .self .now .memory .now in
     let n = c .args .self .now .len in
-    let some : min (c .args .self .now .most) (length old) - n ≡ 0 → ⊥ = λ e. c .if-room-eq0 .left (c .room .ensures ∙ e) in
+    let fits : n < min (c .args .self .now .most) (length old) = omega (arith, c .if-self-capacity .left, c .capacity .ensures) in
     (omega arith, refl, refl, refl, refl, gap-none place-of (c .args .new) n old (c .args .self .now .within), omega arith, omega arith)
 
 pub ghost-self : need.ghost-self
