@@ -1,17 +1,18 @@
 ghost use mathlib.Core.Path.{_≡_};
-ghost use Prim.Native.Nat.{ℕ, _+_, _<_};
+ghost use Prim.Native.Nat.{ℕ, _+_, _<_, _≤_};
 ghost use denote.Ref.{name};
 ghost use lib.ListN.{length};
 ghost use Rattle.std.specs.Results.{Cases};
 ghost use Rattle.std.specs.Vec.{made};
 ghost use Rattle.place_list.specs.declared.refusal.Refusal.the-variants.{Full};
-ghost use Rattle.place_list.specs.Insertion.{Comes-last, Put-in, placed-in};
+ghost use Rattle.place_list.specs.Insertion.{Comes-last, Greater-from, Not-greater-before, Put-in, placed-in};
 ghost use Rattle.place_list.specs.Membership.{One-more};
 ghost use Rattle.place_list.specs.Places.{place-of};
-ghost use Rattle.place_list.specs.Sequence.{Rest-kept, Unaltered, memory-of, room, sequence};
+ghost use Rattle.place_list.specs.Sequence.{Rest-kept, Unaltered, capacity, memory-of, room, sequence};
 use crate::list::PlaceList;
 use crate::placed::Placed;
 use crate::refusal::Refusal;
+use units::Distance;
 
 impl<'a, T: Copy> PlaceList<'a, T> {
     // Puts an item behind those whose place is not greater. Where the list is full it is left alone.
@@ -30,13 +31,49 @@ impl<'a, T: Copy> PlaceList<'a, T> {
         if self.len >= self.capacity() {
             return Err(Refusal::Full);
         }
-        let mut at = self.len;
-        while at > 0 && new.place.millimetres < self.memory[at - 1].place.millimetres {
-            self.memory[at] = self.memory[at - 1];
+        self.put_at(self.index_for(new.place), new);
+        Ok(())
+    }
+
+    // The index behind the last item whose place is not greater.
+    fn index_for(&self, place: Distance) -> usize
+        ensures upto { λ r. ⌜ r ≤ length (sequence (now (self .entry))) ⌝ }
+        ensures before { λ r. ⌜ Not-greater-before place-of (place .millimetres) r (sequence (now (self .entry))) ⌝ }
+        ensures behind { λ r. ⌜ Greater-from place-of (place .millimetres) r (sequence (now (self .entry))) ⌝ }
+    {
+        let items = self.items();
+        let mut at = items.len();
+        while at > 0 {
+            if items[at - 1].place.millimetres <= place.millimetres {
+                return at;
+            }
             at -= 1;
+        }
+        at
+    }
+
+    // Moves the items from the index `at` on one further, and puts the new one there.
+    fn put_at(&mut self, at: usize, new: Placed<T>)
+        requires fits { ⌜ now self .len < capacity (now self) ⌝ }
+        requires upto { ⌜ at ≤ length (sequence (now self)) ⌝ }
+        requires before { ⌜ Not-greater-before place-of (place-of new) at (sequence (now self)) ⌝ }
+        requires behind { ⌜ Greater-from place-of (place-of new) at (sequence (now self)) ⌝ }
+        ensures result { λ _. ⌜ sequence (now (self .exit)) ≡ placed-in place-of new (sequence (now (self .entry))) ⌝ }
+        ensures stands { λ _. ⌜ Put-in place-of new (sequence (now (self .entry))) (sequence (now (self .exit))) ⌝ }
+        ensures members { λ _. ⌜ One-more new (sequence (now (self .entry))) (sequence (now (self .exit))) ⌝ }
+        ensures turns { λ _. ⌜ Comes-last place-of new (sequence (now (self .entry))) (sequence (now (self .exit))) ⌝ }
+        ensures room { λ _. ⌜ room (now (self .exit)) + 1 ≡ room (now (self .entry)) ⌝ }
+        ensures rest { λ _. ⌜ Rest-kept (now (self .entry)) (now (self .exit)) ⌝ }
+        ensures most { λ _. ⌜ now (self .exit) .most ≡ now (self .entry) .most ⌝ }
+        ensures memory { λ _. ⌜ length (memory-of (now (self .exit))) ≡ length (memory-of (now (self .entry))) ⌝ }
+        ensures lent { λ _. ⌜ name (now (self .exit) .memory) ≡ name (now (self .entry) .memory) ⌝ }
+    {
+        let mut gap = self.len;
+        while gap > at {
+            self.memory[gap] = self.memory[gap - 1];
+            gap -= 1;
         }
         self.memory[at] = new;
         self.len += 1;
-        Ok(())
     }
 }

@@ -13,7 +13,7 @@ impl<'a, T: Copy> PlaceList<'a, T> {
         ensures value { λ r. ⌜ now r ≡ sequence (now (self .entry)) ⌝ }
         ensures order { λ r. ⌜ Ascending place-of (now r) ⌝ }
     {
-        &self.memory[0..self.len]
+        self.in_use()
     }
 
     // How many items stand in the list.
@@ -28,6 +28,14 @@ impl<'a, T: Copy> PlaceList<'a, T> {
         ensures { λ r. ⌜ r ≡ room (now (self .entry)) ⌝ }
     {
         self.capacity() - self.len
+    }
+
+    // The part of the memory that is in use.
+    fn in_use(&self) -> &[Placed<T>]
+        ensures value { λ r. ⌜ now r ≡ sequence (now (self .entry)) ⌝ }
+        ensures order { λ r. ⌜ Ascending place-of (now r) ⌝ }
+    {
+        &self.memory[0..self.len]
     }
 
     // How many items fit, with those that stand in the list.

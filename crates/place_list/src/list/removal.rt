@@ -11,7 +11,7 @@ use crate::list::PlaceList;
 use crate::placed::Placed;
 
 impl<'a, T: Copy> PlaceList<'a, T> {
-    // Takes out the item at the index `at`, and closes the gap. Where none stands there the list is left alone.
+    // Takes out the item at the index `at`. Where none stands there the list is left alone.
     pub fn take_out(&mut self, at: usize) -> Option<Placed<T>>
         ensures none { λ r. ⌜ Cases r (length (sequence (now (self .entry))) ≤ at) (λ _. at < length (sequence (now (self .entry)))) ⌝ }
         ensures taken { λ r. ⌜ Cases r (Unit {0}) (λ x. x ≡ getD (sequence (now (self .entry))) at x) ⌝ }
@@ -27,11 +27,28 @@ impl<'a, T: Copy> PlaceList<'a, T> {
         if at >= self.len {
             return None;
         }
+        Some(self.close_up(at))
+    }
+
+    // Moves the items behind the index `at` one to the front, over the one that stands there.
+    fn close_up(&mut self, at: usize) -> Placed<T>
+        requires { ⌜ at < now self .len ⌝ }
+        ensures none { λ _. ⌜ at < length (sequence (now (self .entry))) ⌝ }
+        ensures taken { λ x. ⌜ x ≡ getD (sequence (now (self .entry))) at x ⌝ }
+        ensures result { λ _. ⌜ sequence (now (self .exit)) ≡ removed (sequence (now (self .entry))) at ⌝ }
+        ensures stood { λ x. ⌜ Taken-from at x (sequence (now (self .entry))) (sequence (now (self .exit))) ⌝ }
+        ensures members { λ x. ⌜ One-more x (sequence (now (self .exit))) (sequence (now (self .entry))) ⌝ }
+        ensures room { λ _. ⌜ room (now (self .exit)) ≡ room (now (self .entry)) + 1 ⌝ }
+        ensures rest { λ _. ⌜ Rest-kept (now (self .entry)) (now (self .exit)) ⌝ }
+        ensures most { λ _. ⌜ now (self .exit) .most ≡ now (self .entry) .most ⌝ }
+        ensures memory { λ _. ⌜ length (memory-of (now (self .exit))) ≡ length (memory-of (now (self .entry))) ⌝ }
+        ensures lent { λ _. ⌜ name (now (self .exit) .memory) ≡ name (now (self .entry) .memory) ⌝ }
+    {
         let taken = self.memory[at];
         for i in at..self.len - 1 {
             self.memory[i] = self.memory[i + 1];
         }
         self.len -= 1;
-        Some(taken)
+        taken
     }
 }

@@ -7,11 +7,11 @@ use Rattle.std.proofs.shelf.Lists.{getD-default, getD-take, length-set, length-
 use Rattle.place_list.specs.Places.{place-of}
 use Rattle.place_list.proofs.Ascents.{ascends-over-previous, ascends-removed}
 use Rattle.place_list.proofs.Removals.{closed-all, closed-more, closed-none, taken-from, taken-one}
-use Rattle.place_list.proofs.list.PlaceList.take_out.Needs as need
+use Rattle.place_list.proofs.list.PlaceList.close_up.Needs as need
 
 pub loop-i-holds : need.loop-i-holds
 loop-i-holds g c =
-    (refl, refl, refl, refl, closed-none (c .args .self .now .len) (c .args .at) (c .args .self .now .memory .now) (c .if-at-self .left) (c .args .self .now .within))
+    (refl, refl, refl, refl, closed-none (c .args .self .now .len) (c .args .at) (c .args .self .now .memory .now) (c .pre) (c .args .self .now .within))
 
 pub ghost-self : need.ghost-self
 ghost-self g c =
@@ -48,7 +48,7 @@ ghost-self-2 g c =
     let n = c .args .self .now .len in
     let v = c .loop-i .inv in
     let count : c .loop-i .self .len ≡ n = v .0 in
-    let some : c .args .at < n = c .if-at-self .left in
+    let some : c .args .at < n = c .pre in
     let last : c .loop-i .i ≤ n - 1 = c .loop-i .kept .i-end (omega arith) in
     let done : n - 1 ≤ c .loop-i .i = c .loop-i-test .left in
     let within : c .loop-i .self .len ≤ length memory = c .loop-i .self .within in
@@ -67,7 +67,7 @@ returns g c =
     let count : c .loop-i .self .len ≡ n = v .0 in
     let most : c .loop-i .self .most ≡ c .args .self .now .most = v .1 in
     let same : length memory ≡ length old = v .2 in
-    let some : at < n = c .if-at-self .left in
+    let some : at < n = c .pre in
     let within : n ≤ length old = c .args .self .now .within in
     let allowed : n ≤ c .args .self .now .most = c .args .self .now .allowed in
     let whole : length (take n old) ≡ n = length-take-le n old within in

@@ -8,7 +8,7 @@ use Rattle.place_list.specs.Order.{Ascending, ascends}
 use Rattle.place_list.specs.Places.{place-of}
 use Rattle.place_list.specs.declared.placed.Placed.{Placed}
 use Rattle.place_list.proofs.Ascents.{ascending}
-use Rattle.place_list.proofs.list.PlaceList.items.Needs as need
+use Rattle.place_list.proofs.list.PlaceList.in_use.Needs as need
 
 pub returns : need.returns
 returns g c =

@@ -2,7 +2,7 @@ use mathlib.Core.Path.{_≡_}
 use denote.Ref.{now}
 use lib.ListN.{length}
 use Rattle.place_list.proofs.Removals.{Closed}
-use Rattle.place_list.proofs.list.PlaceList.take_out.Given as given
+use Rattle.place_list.proofs.list.PlaceList.close_up.Given as given
 
 abbrev pub Inv-loop-i : given.InvT-loop-i
 Inv-loop-i g l =
