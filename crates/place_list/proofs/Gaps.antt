@@ -31,14 +31,14 @@ gap-more {X} n i j memory old y e l m same r gap =
     let items = take n old in
     let whole : length items ≡ n = length-take-le n old (omega arith) in
     let is : getD items j y ≡ y =
-        getD-take n old j y (omega arith) ∙ (sym (getD-take (j + 1) old j y (omega arith)) ∙ (ap (λ (s : List X). getD s j y) (sym front) ∙ (getD-take (j + 1) memory j y (omega arith) ∙ sym r))) in
+    getD-take n old j y (omega arith) ∙ (sym (getD-take (j + 1) old j y (omega arith)) ∙ (ap (λ (s : List X). getD s j y) (sym front) ∙ (getD-take (j + 1) memory j y (omega arith) ∙ sym r))) in
     let one : drop j items ≡ y ∷ drop i items =
-        drop-more items j y (omega arith) ∙ (ap (λ (v : X). v ∷ drop (j + 1) items) is ∙ ap (λ (k : ℕ). y ∷ drop k items) (sym e)) in
+    drop-more items j y (omega arith) ∙ (ap (λ (v : X). v ∷ drop (j + 1) items) is ∙ ap (λ (k : ℕ). y ∷ drop k items) (sym e)) in
     record {
       front =
-        take-set-le j memory i y (omega arith) ∙ (sym (take-take j (j + 1) memory (omega arith)) ∙ (ap (take j) front ∙ take-take j (j + 1) old (omega arith)));
+          take-set-le j memory i y (omega arith) ∙ (sym (take-take j (j + 1) memory (omega arith)) ∙ (ap (take j) front ∙ take-take j (j + 1) old (omega arith)));
       back =
-        ap (λ (k : ℕ). drop k (set memory i y)) (sym e) ∙ (drop-set memory i y (omega arith) ∙ (ap (λ (s : List X). y ∷ s) (gap .back) ∙ ap (λ (s : List X). s ++ drop (n + 1) old) (sym one)));
+          ap (λ (k : ℕ). drop k (set memory i y)) (sym e) ∙ (drop-set memory i y (omega arith) ∙ (ap (λ (s : List X). y ∷ s) (gap .back) ∙ ap (λ (s : List X). s ++ drop (n + 1) old) (sym one)));
     }
 
 -- x goes into the gap: the items then, and the rest of the memory.

@@ -32,10 +32,10 @@ closed-more {X} n at i memory old y l m k same r c =
     let whole : length items ≡ n = length-take-le n old k in
     let less : length (removed items at) + 1 ≡ length items = length-removed items at (omega arith) in
     let is : getD (removed items at) i y ≡ y =
-        getD-removed-above items at y i l (omega arith) ∙ (getD-take n old (i + 1) y m ∙ (sym (getD-drop i old 1 y) ∙ (ap (λ (s : List X). getD s 1 y) (sym (c .back)) ∙ (getD-drop i memory 1 y ∙ sym r)))) in
+    getD-removed-above items at y i l (omega arith) ∙ (getD-take n old (i + 1) y m ∙ (sym (getD-drop i old 1 y) ∙ (ap (λ (s : List X). getD s 1 y) (sym (c .back)) ∙ (getD-drop i memory 1 y ∙ sym r)))) in
     record {
       front =
-        take-more-set memory i y (omega arith) ∙ (ap (λ (s : List X). s ++ y ∷ []) (c .front) ∙ (ap (λ (v : X). take i (removed items at) ++ v ∷ []) (sym is) ∙ sym (take-more (removed items at) i y (omega arith))));
+          take-more-set memory i y (omega arith) ∙ (ap (λ (s : List X). s ++ y ∷ []) (c .front) ∙ (ap (λ (v : X). take i (removed items at) ++ v ∷ []) (sym is) ∙ sym (take-more (removed items at) i y (omega arith))));
       back = drop-set-lt (i + 1) memory i y (omega arith) ∙ (sym (drop-drop 1 i memory) ∙ (ap (drop 1) (c .back) ∙ drop-drop 1 i old));
     }
 
@@ -52,7 +52,7 @@ taken-from {X} i x old new l e n = record {
   before = take i old;
   behind = drop (suc i) old;
   old-is =
-    sym (take-append-drop i old) ∙ (ap (λ (s : List X). take i old ++ s) (drop-more old i x l) ∙ (ap (λ (v : X). take i old ++ v ∷ drop (i + 1) old) (sym e) ∙ ap (λ (k : ℕ). take i old ++ x ∷ drop k old) (add-one i)));
+      sym (take-append-drop i old) ∙ (ap (λ (s : List X). take i old ++ s) (drop-more old i x l) ∙ (ap (λ (v : X). take i old ++ v ∷ drop (i + 1) old) (sym e) ∙ ap (λ (k : ℕ). take i old ++ x ∷ drop k old) (add-one i)));
   new-is = n;
   index = length-take-le i old (omega arith);
 }

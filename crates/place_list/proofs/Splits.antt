@@ -46,11 +46,12 @@ none-at place p (y ∷ ys) k =
 -- At its own place the item is the last; at any other place nothing changes.
 last-there : {X : Type 0} (place : X → ℕ) (x : X) (behind : List X) (p : ℕ) → All (λ y. place x < place y) behind → at-place place p (x ∷ behind) ≡ at-place place p behind ++ at-place place p (x ∷ [])
 last-there {X} place x behind p k =
-    elim (eqb (place x) p) as (λ v. eqb (place x) p ≡ v → cond v (x ∷ at-place place p behind) (at-place place p behind) ≡ at-place place p behind ++ cond v (x ∷ []) [])
-    [ true ↦ λ e.
-        let none : at-place place p behind ≡ [] = subst (λ (q : ℕ). at-place place q behind ≡ []) (eqb-true (place x) p e) (none-at place (place x) behind k) in
-        ap (λ (r : List X). x ∷ r) none ∙ sym (ap (λ (r : List X). r ++ x ∷ []) none)
-    | false ↦ λ e. sym (append-nil (at-place place p behind)) ] refl
+    elim (eqb (place x) p) as (λ v. eqb (place x) p ≡ v → cond v (x ∷ at-place place p behind) (at-place place p behind) ≡ at-place place p behind ++ cond v (x ∷ []) []) [
+      | true ↦ λ e.
+          let none : at-place place p behind ≡ [] = subst (λ (q : ℕ). at-place place q behind ≡ []) (eqb-true (place x) p e) (none-at place (place x) behind k) in
+          ap (λ (r : List X). x ∷ r) none ∙ sym (ap (λ (r : List X). r ++ x ∷ []) none)
+      | false ↦ λ e. sym (append-nil (at-place place p behind))
+    ] refl
 
 pub comes-last : {X : Type 0} (place : X → ℕ) (x : X) (old new : List X) → Put-in place x old new → Comes-last place x old new
 comes-last {X} place x old new s p =

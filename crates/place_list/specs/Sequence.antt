@@ -2,7 +2,8 @@
 use mathlib.Core.List.{List}
 use mathlib.Core.Path.{_≡_}
 use Prim.Native.Nat.{ℕ, _-_, min}
-use denote.Ref.{now}
+use base.Fml.{GName}
+use denote.Ref.{name, now}
 use lib.ListN.{length, take, drop}
 use Rattle.place_list.specs.declared.placed.Placed.{Placed}
 use Rattle.place_list.specs.declared.list.PlaceList.{PlaceList}
@@ -10,6 +11,10 @@ use Rattle.place_list.specs.declared.list.PlaceList.{PlaceList}
 -- The whole memory, in use or not.
 abbrev pub memory-of : {T : Type 0} → PlaceList T → List (Placed T)
 memory-of l = now (l .memory)
+
+-- Which loan of memory the list holds: two references to the same loan have the same name.
+abbrev pub loan-of : {T : Type 0} → PlaceList T → GName
+loan-of l = name (l .memory)
 
 -- The items of the list, in order: the part of the memory that is in use.
 abbrev pub sequence : {T : Type 0} → PlaceList T → List (Placed T)

@@ -2,6 +2,7 @@ mod keyed;
 mod list;
 mod placed;
 mod refusal;
+
 pub use keyed::Keyed;
 pub use list::PlaceList;
 pub use placed::Placed;

@@ -5,11 +5,13 @@ ghost use denote.Ref.{now as behind};
 ghost use lib.ListN.{length, take};
 ghost use Rattle.place_list.specs.Order.{ascends};
 ghost use Rattle.place_list.specs.Places.{place-of};
+
 mod finding;
 mod insertion;
 mod making;
 mod reading;
 mod removal;
+
 use crate::placed::Placed;
 
 // Items in memory that the caller lends, in the order of their places.

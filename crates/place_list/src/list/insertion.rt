@@ -1,6 +1,5 @@
 ghost use mathlib.Core.Path.{_≡_};
 ghost use Prim.Native.Nat.{ℕ, _+_, _<_, _≤_};
-ghost use denote.Ref.{name};
 ghost use lib.ListN.{length};
 ghost use Rattle.std.specs.Results.{Cases};
 ghost use Rattle.std.specs.Vec.{made};
@@ -8,7 +7,7 @@ ghost use Rattle.place_list.specs.declared.refusal.Refusal.the-variants.{Full}
 ghost use Rattle.place_list.specs.Insertion.{Comes-last, Greater-from, Not-greater-before, Put-in, placed-in};
 ghost use Rattle.place_list.specs.Membership.{One-more};
 ghost use Rattle.place_list.specs.Places.{place-of};
-ghost use Rattle.place_list.specs.Sequence.{Rest-kept, Unaltered, capacity, memory-of, room, sequence};
+ghost use Rattle.place_list.specs.Sequence.{Rest-kept, Unaltered, capacity, loan-of, memory-of, room, sequence};
 use crate::list::PlaceList;
 use crate::placed::Placed;
 use crate::refusal::Refusal;
@@ -26,7 +25,7 @@ impl<'a, T: Copy> PlaceList<'a, T> {
         ensures rest { λ _. ⌜ Rest-kept (now (self .entry)) (now (self .exit)) ⌝ }
         ensures most { λ _. ⌜ now (self .exit) .most ≡ now (self .entry) .most ⌝ }
         ensures memory { λ _. ⌜ length (memory-of (now (self .exit))) ≡ length (memory-of (now (self .entry))) ⌝ }
-        ensures lent { λ _. ⌜ name (now (self .exit) .memory) ≡ name (now (self .entry) .memory) ⌝ }
+        ensures lent { λ _. ⌜ loan-of (now (self .exit)) ≡ loan-of (now (self .entry)) ⌝ }
     {
         if self.len >= self.capacity() {
             return Err(Refusal::Full);
@@ -66,7 +65,7 @@ impl<'a, T: Copy> PlaceList<'a, T> {
         ensures rest { λ _. ⌜ Rest-kept (now (self .entry)) (now (self .exit)) ⌝ }
         ensures most { λ _. ⌜ now (self .exit) .most ≡ now (self .entry) .most ⌝ }
         ensures memory { λ _. ⌜ length (memory-of (now (self .exit))) ≡ length (memory-of (now (self .entry))) ⌝ }
-        ensures lent { λ _. ⌜ name (now (self .exit) .memory) ≡ name (now (self .entry) .memory) ⌝ }
+        ensures lent { λ _. ⌜ loan-of (now (self .exit)) ≡ loan-of (now (self .entry)) ⌝ }
     {
         let mut gap = self.len;
         while gap > at {

@@ -3,7 +3,7 @@ ghost use mathlib.Core.Path.{_≡_};
 ghost use Prim.Native.Nat.{ℕ, min};
 ghost use denote.Ref.{name};
 ghost use lib.ListN.{length};
-ghost use Rattle.place_list.specs.Sequence.{memory-of, room, sequence};
+ghost use Rattle.place_list.specs.Sequence.{loan-of, memory-of, room, sequence};
 use crate::list::PlaceList;
 use crate::placed::Placed;
 
@@ -14,17 +14,25 @@ impl<'a, T: Copy> PlaceList<'a, T> {
         ensures room { λ r. ⌜ room r ≡ min most (length (now (memory .entry))) ⌝ }
         ensures most { λ r. ⌜ r .most ≡ most ⌝ }
         ensures memory { λ r. ⌜ memory-of r ≡ now (memory .entry) ⌝ }
-        ensures lent { λ r. ⌜ name (r .memory) ≡ name (memory .entry) ⌝ }
+        ensures lent { λ r. ⌜ loan-of r ≡ name (memory .entry) ⌝ }
     {
-        PlaceList { memory, len: 0, most }
+        PlaceList {
+            memory,
+            len: 0,
+            most,
+        }
     }
 
     // The memory goes back to the caller, with the items at its start.
     pub fn give_up(self) -> &'a mut [Placed<T>]
         ensures memory { λ r. ⌜ now r ≡ memory-of (self .entry) ⌝ }
-        ensures lent { λ r. ⌜ name r ≡ name (self .entry .memory) ⌝ }
+        ensures lent { λ r. ⌜ name r ≡ loan-of (self .entry) ⌝ }
     {
-        let PlaceList { memory, len: _, most: _ } = self;
+        let PlaceList {
+            memory,
+            len: _,
+            most: _,
+        } = self;
         memory
     }
 }

@@ -1,12 +1,11 @@
 ghost use mathlib.Core.Path.{_≡_};
 ghost use Prim.Native.Nat.{ℕ, _+_, _<_, _≤_};
-ghost use denote.Ref.{name};
 ghost use lib.ListN.{getD, length};
 ghost use Rattle.std.specs.Options.{Cases};
 ghost use Rattle.std.specs.shelf.Lists.{removed};
 ghost use Rattle.place_list.specs.Membership.{One-more};
 ghost use Rattle.place_list.specs.Removal.{Taken-from};
-ghost use Rattle.place_list.specs.Sequence.{Rest-kept, Unaltered, memory-of, room, sequence};
+ghost use Rattle.place_list.specs.Sequence.{Rest-kept, Unaltered, loan-of, memory-of, room, sequence};
 use crate::list::PlaceList;
 use crate::placed::Placed;
 
@@ -22,7 +21,7 @@ impl<'a, T: Copy> PlaceList<'a, T> {
         ensures rest { λ _. ⌜ Rest-kept (now (self .entry)) (now (self .exit)) ⌝ }
         ensures most { λ _. ⌜ now (self .exit) .most ≡ now (self .entry) .most ⌝ }
         ensures memory { λ _. ⌜ length (memory-of (now (self .exit))) ≡ length (memory-of (now (self .entry))) ⌝ }
-        ensures lent { λ _. ⌜ name (now (self .exit) .memory) ≡ name (now (self .entry) .memory) ⌝ }
+        ensures lent { λ _. ⌜ loan-of (now (self .exit)) ≡ loan-of (now (self .entry)) ⌝ }
     {
         if at >= self.len {
             return None;
@@ -42,7 +41,7 @@ impl<'a, T: Copy> PlaceList<'a, T> {
         ensures rest { λ _. ⌜ Rest-kept (now (self .entry)) (now (self .exit)) ⌝ }
         ensures most { λ _. ⌜ now (self .exit) .most ≡ now (self .entry) .most ⌝ }
         ensures memory { λ _. ⌜ length (memory-of (now (self .exit))) ≡ length (memory-of (now (self .entry))) ⌝ }
-        ensures lent { λ _. ⌜ name (now (self .exit) .memory) ≡ name (now (self .entry) .memory) ⌝ }
+        ensures lent { λ _. ⌜ loan-of (now (self .exit)) ≡ loan-of (now (self .entry)) ⌝ }
     {
         let taken = self.memory[at];
         for i in at..self.len - 1 {

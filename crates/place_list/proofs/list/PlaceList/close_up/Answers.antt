@@ -37,9 +37,13 @@ loop-i-again g c =
     let v = c .loop-i .inv in
     let below : i < n - 1 = c .loop-i-test .taken in
     let within : n ≤ length old = c .args .self .now .within in
-    let same : length memory ≡ length old = v .2 in
-    ( v .0, v .1, length-set memory i y ∙ same, v .3
-    , closed-more n (c .args .at) i memory old y (c .loop-i .kept .i) (omega arith) within same (getD-default memory (i + 1) d y (omega arith)) (v .4) )
+    let same : length memory ≡ length old = v .2 in (
+      v .0,
+      v .1,
+      length-set memory i y ∙ same,
+      v .3,
+      closed-more n (c .args .at) i memory old y (c .loop-i .kept .i) (omega arith) within same (getD-default memory (i + 1) d y (omega arith)) (v .4),
+    )
 
 pub ghost-self-2 : need.ghost-self-2
 ghost-self-2 g c =

@@ -45,9 +45,15 @@ loop-gap-again g c =
     let above : c .args .at < i = c .loop-gap-test .taken in
     let same : length memory ≡ length old = v .4 in
     let upto : i ≤ n = v .1 in
-    let fits : n < min (c .args .self .now .most) (length old) = c .pre .fits in
-    ( omega arith, omega arith, v .2, v .3, length-set memory i y ∙ same, v .5
-    , gap-more n i (i - 1) memory old y (omega arith) upto (omega arith) same (getD-default memory (i - 1) d y (omega arith)) (v .6) )
+    let fits : n < min (c .args .self .now .most) (length old) = c .pre .fits in (
+      omega arith,
+      omega arith,
+      v .2,
+      v .3,
+      length-set memory i y ∙ same,
+      v .5,
+      gap-more n i (i - 1) memory old y (omega arith) upto (omega arith) same (getD-default memory (i - 1) d y (omega arith)) (v .6),
+    )
 
 -- The gap has come to the index asked for.
 stands : (g : _) (c : After-index-self-at g) → Put-in place-of (c .args .new) (take (c .args .self .now .len) (c .args .self .now .memory .now)) (take (c .args .self .now .len + 1) (set (c .loop-gap .self .memory .now) (c .args .at) (c .args .new)))
