@@ -9,8 +9,9 @@ use lib.ListN.{length, getD, set, take, drop}
 use Rattle.std.specs.shelf.Lists.{All}
 use Rattle.std.proofs.shelf.Elements.{all-from-getD}
 use Rattle.std.proofs.shelf.Lists.{append-assoc, drop-all, drop-at, drop-more, drop-set, getD-drop, getD-take, length-append, length-drop, length-take-le, set-split, take-append-drop, take-at, take-set-le, take-take}
-use Rattle.place_list.specs.Insertion.{Greater-from, Not-greater-before, Put-in}
+use Rattle.place_list.specs.Insertion.{Put-in}
 use Rattle.place_list.specs.Order.{ascends}
+use Rattle.place_list.specs.Position.{Greater-from, Not-greater-before}
 use Rattle.place_list.proofs.Ascents.{all-up-to, climbs}
 
 -- The first n of the old memory are the items. Those behind the gap stand one further, and the rest of the memory is as it was.

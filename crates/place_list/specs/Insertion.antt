@@ -2,9 +2,8 @@
 use mathlib.Core.Bool.{cond}
 use mathlib.Core.List.{List, [], _∷_, _++_}
 use mathlib.Core.Path.{_≡_}
-use Prim.Native.Nat.{ℕ, _-_, _<_, _≤_}
+use Prim.Native.Nat.{ℕ, _<_, _≤_}
 use lib.Dec.{eqb, ltb}
-use lib.ListN.{getD, length}
 use Rattle.std.specs.shelf.Lists.{All, kept-by}
 
 -- The sequence with x before the first item of a greater place.
@@ -29,11 +28,3 @@ at-place place p xs = kept-by (λ y. eqb (place y) p) xs
 -- At every place the items stand in the order in which they came: x is the last at its place, and the others are as before.
 abbrev pub Comes-last : {X : Type 0} → (X → ℕ) → X → List X → List X → Type 0
 Comes-last place x old new = (p : ℕ) → at-place place p new ≡ at-place place p old ++ at-place place p (x ∷ [])
-
--- The item before the index i, if there is one, has a place of at most p.
-abbrev pub Not-greater-before : {X : Type 0} → (X → ℕ) → ℕ → ℕ → List X → Type 0
-Not-greater-before {X} place p i xs = (d : X) → 0 < i → place (getD xs (i - 1) d) ≤ p
-
--- From the index i on, the places are greater than p.
-abbrev pub Greater-from : {X : Type 0} → (X → ℕ) → ℕ → ℕ → List X → Type 0
-Greater-from {X} place p i xs = (d : X) (k : ℕ) → i ≤ k → k < length xs → p < place (getD xs k d)

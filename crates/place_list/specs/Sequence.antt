@@ -34,6 +34,10 @@ pub record Unaltered {T : Type 0} (before after : PlaceList T) : Type 0 where
   pub room-same : room after ≡ room before
   pub memory-same : memory-of after ≡ memory-of before
 
--- Behind the items in use after a call, the memory holds what it held before the call.
-abbrev pub Rest-kept : {T : Type 0} → PlaceList T → PlaceList T → Type 0
-Rest-kept before after = drop (after .len) (memory-of after) ≡ drop (after .len) (memory-of before)
+-- What a call keeps in any case: the most, the memory's length, whose loan it is,
+-- and what the memory holds behind the items that are in use after the call.
+pub record Kept {T : Type 0} (before after : PlaceList T) : Type 0 where
+  pub most-same : after .most ≡ before .most
+  pub length-same : length (memory-of after) ≡ length (memory-of before)
+  pub loan-same : loan-of after ≡ loan-of before
+  pub rest-same : drop (after .len) (memory-of after) ≡ drop (after .len) (memory-of before)

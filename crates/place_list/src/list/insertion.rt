@@ -4,10 +4,12 @@ ghost use lib.ListN.{length};
 ghost use Rattle.std.specs.Results.{Cases};
 ghost use Rattle.std.specs.Vec.{made};
 ghost use Rattle.place_list.specs.declared.refusal.Refusal.the-variants.{Full};
-ghost use Rattle.place_list.specs.Insertion.{Comes-last, Greater-from, Not-greater-before, Put-in, placed-in};
+ghost use Rattle.place_list.specs.Insertion.{Comes-last, Put-in, placed-in};
 ghost use Rattle.place_list.specs.Membership.{One-more};
 ghost use Rattle.place_list.specs.Places.{place-of};
-ghost use Rattle.place_list.specs.Sequence.{Rest-kept, Unaltered, capacity, loan-of, memory-of, room, sequence};
+ghost use Rattle.place_list.specs.Position.{Greater-from, Not-greater-before};
+ghost use Rattle.place_list.specs.Sequence.{Kept, Unaltered, capacity, room, sequence};
+ghost use Rattle.place_list.specs.Steps.{Inserted};
 use crate::list::PlaceList;
 use crate::placed::Placed;
 use crate::refusal::Refusal;
@@ -22,10 +24,7 @@ impl<'a, T: Copy> PlaceList<'a, T> {
         ensures members { λ r. ⌜ made r (λ _. One-more new (sequence (now (self .entry))) (sequence (now (self .exit)))) ⌝ }
         ensures turns { λ r. ⌜ made r (λ _. Comes-last place-of new (sequence (now (self .entry))) (sequence (now (self .exit)))) ⌝ }
         ensures room { λ r. ⌜ made r (λ _. room (now (self .exit)) + 1 ≡ room (now (self .entry))) ⌝ }
-        ensures rest { λ _. ⌜ Rest-kept (now (self .entry)) (now (self .exit)) ⌝ }
-        ensures most { λ _. ⌜ now (self .exit) .most ≡ now (self .entry) .most ⌝ }
-        ensures memory { λ _. ⌜ length (memory-of (now (self .exit))) ≡ length (memory-of (now (self .entry))) ⌝ }
-        ensures lent { λ _. ⌜ loan-of (now (self .exit)) ≡ loan-of (now (self .entry)) ⌝ }
+        ensures kept { λ _. ⌜ Kept (now (self .entry)) (now (self .exit)) ⌝ }
     {
         if self.len >= self.capacity() {
             return Err(Refusal::Full);
@@ -57,15 +56,7 @@ impl<'a, T: Copy> PlaceList<'a, T> {
         requires upto { ⌜ at ≤ length (sequence (now self)) ⌝ }
         requires before { ⌜ Not-greater-before place-of (place-of new) at (sequence (now self)) ⌝ }
         requires behind { ⌜ Greater-from place-of (place-of new) at (sequence (now self)) ⌝ }
-        ensures result { λ _. ⌜ sequence (now (self .exit)) ≡ placed-in place-of new (sequence (now (self .entry))) ⌝ }
-        ensures stands { λ _. ⌜ Put-in place-of new (sequence (now (self .entry))) (sequence (now (self .exit))) ⌝ }
-        ensures members { λ _. ⌜ One-more new (sequence (now (self .entry))) (sequence (now (self .exit))) ⌝ }
-        ensures turns { λ _. ⌜ Comes-last place-of new (sequence (now (self .entry))) (sequence (now (self .exit))) ⌝ }
-        ensures room { λ _. ⌜ room (now (self .exit)) + 1 ≡ room (now (self .entry)) ⌝ }
-        ensures rest { λ _. ⌜ Rest-kept (now (self .entry)) (now (self .exit)) ⌝ }
-        ensures most { λ _. ⌜ now (self .exit) .most ≡ now (self .entry) .most ⌝ }
-        ensures memory { λ _. ⌜ length (memory-of (now (self .exit))) ≡ length (memory-of (now (self .entry))) ⌝ }
-        ensures lent { λ _. ⌜ loan-of (now (self .exit)) ≡ loan-of (now (self .entry)) ⌝ }
+        ensures { λ _. ⌜ Inserted new (now (self .entry)) (now (self .exit)) ⌝ }
     {
         let mut gap = self.len;
         while gap > at {

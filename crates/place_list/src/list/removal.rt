@@ -5,7 +5,8 @@ ghost use Rattle.std.specs.Options.{Cases};
 ghost use Rattle.std.specs.shelf.Lists.{removed};
 ghost use Rattle.place_list.specs.Membership.{One-more};
 ghost use Rattle.place_list.specs.Removal.{Taken-from};
-ghost use Rattle.place_list.specs.Sequence.{Rest-kept, Unaltered, loan-of, memory-of, room, sequence};
+ghost use Rattle.place_list.specs.Sequence.{Kept, Unaltered, room, sequence};
+ghost use Rattle.place_list.specs.Steps.{Removed};
 use crate::list::PlaceList;
 use crate::placed::Placed;
 
@@ -18,10 +19,7 @@ impl<'a, T: Copy> PlaceList<'a, T> {
         ensures stood { λ r. ⌜ Cases r (Unit {0}) (λ x. Taken-from at x (sequence (now (self .entry))) (sequence (now (self .exit)))) ⌝ }
         ensures members { λ r. ⌜ Cases r (Unit {0}) (λ x. One-more x (sequence (now (self .exit))) (sequence (now (self .entry)))) ⌝ }
         ensures room { λ r. ⌜ Cases r (Unit {0}) (λ _. room (now (self .exit)) ≡ room (now (self .entry)) + 1) ⌝ }
-        ensures rest { λ _. ⌜ Rest-kept (now (self .entry)) (now (self .exit)) ⌝ }
-        ensures most { λ _. ⌜ now (self .exit) .most ≡ now (self .entry) .most ⌝ }
-        ensures memory { λ _. ⌜ length (memory-of (now (self .exit))) ≡ length (memory-of (now (self .entry))) ⌝ }
-        ensures lent { λ _. ⌜ loan-of (now (self .exit)) ≡ loan-of (now (self .entry)) ⌝ }
+        ensures kept { λ _. ⌜ Kept (now (self .entry)) (now (self .exit)) ⌝ }
     {
         if at >= self.len {
             return None;
@@ -32,16 +30,7 @@ impl<'a, T: Copy> PlaceList<'a, T> {
     // Moves the items behind the index `at` one to the front, over the one that stands there.
     fn close_up(&mut self, at: usize) -> Placed<T>
         requires { ⌜ at < now self .len ⌝ }
-        ensures none { λ _. ⌜ at < length (sequence (now (self .entry))) ⌝ }
-        ensures taken { λ x. ⌜ x ≡ getD (sequence (now (self .entry))) at x ⌝ }
-        ensures result { λ _. ⌜ sequence (now (self .exit)) ≡ removed (sequence (now (self .entry))) at ⌝ }
-        ensures stood { λ x. ⌜ Taken-from at x (sequence (now (self .entry))) (sequence (now (self .exit))) ⌝ }
-        ensures members { λ x. ⌜ One-more x (sequence (now (self .exit))) (sequence (now (self .entry))) ⌝ }
-        ensures room { λ _. ⌜ room (now (self .exit)) ≡ room (now (self .entry)) + 1 ⌝ }
-        ensures rest { λ _. ⌜ Rest-kept (now (self .entry)) (now (self .exit)) ⌝ }
-        ensures most { λ _. ⌜ now (self .exit) .most ≡ now (self .entry) .most ⌝ }
-        ensures memory { λ _. ⌜ length (memory-of (now (self .exit))) ≡ length (memory-of (now (self .entry))) ⌝ }
-        ensures lent { λ _. ⌜ loan-of (now (self .exit)) ≡ loan-of (now (self .entry)) ⌝ }
+        ensures { λ x. ⌜ Removed at x (now (self .entry)) (now (self .exit)) ⌝ }
     {
         let taken = self.memory[at];
         for i in at..self.len - 1 {

@@ -83,14 +83,11 @@ returns g c =
     let left = closed-all n at (c .loop-i .i) (c .loop-i .self .len - 1) memory old some within (omega arith) end (v .4) in
     let from = taken-from at x (take n old) _ inside is left in
     record {
-      none = inside;
+      inside = inside;
       taken = is;
       result = left;
       stood = from;
       members = taken-one at x _ _ from;
-      room = omega arith;
-      rest = rw end (v .4 .back);
-      most = most;
-      memory = same;
-      lent = v .3;
+      room-more = omega arith;
+      kept = record { most-same = most; length-same = same; loan-same = v .3; rest-same = rw end (v .4 .back) };
     }

@@ -1,7 +1,7 @@
 use Prim.Native.Nat.{_≤_}
 use lib.ListN.{length}
-use Rattle.place_list.specs.Insertion.{Greater-from}
 use Rattle.place_list.specs.Places.{place-of}
+use Rattle.place_list.specs.Position.{Greater-from}
 use Rattle.place_list.proofs.list.PlaceList.index_for.Given as given
 
 abbrev pub Inv-loop-at : given.InvT-loop-at

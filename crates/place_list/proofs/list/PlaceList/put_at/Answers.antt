@@ -102,9 +102,11 @@ returns g c =
       stands = put;
       members = one-more x (put .before) (put .behind) _ _ (put .old-is) (put .new-is);
       turns = comes-last place-of x _ _ put;
-      room = omega arith;
-      rest = rw count (filled-rest x n at memory old (omega arith) (omega arith) (v .4) gap);
-      most = most;
-      memory = same;
-      lent = v .5;
+      room-less = omega arith;
+      kept = record {
+        most-same = most;
+        length-same = same;
+        loan-same = v .5;
+        rest-same = rw count (filled-rest x n at memory old (omega arith) (omega arith) (v .4) gap);
+      };
     }
