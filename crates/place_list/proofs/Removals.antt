@@ -1,15 +1,18 @@
 -- Taking an item out moves each item behind it one place to the front.
 use mathlib.Core.List.{List, [], _∷_, _++_}
-use mathlib.Core.Path.{_≡_, refl, sym, ap, subst, _∙_}
+use mathlib.Core.Path.{_≡_, refl, sym, ap, _∙_}
 use Prim.Native.Nat.{ℕ, suc, _+_, _-_, _<_, _≤_}
 use native.Mathlib.Numerals.{add-one}
 use native.Mathlib.Omega.{arith}
+use lib.Dec.{eqb}
 use lib.ListN.{length, getD, set, take, drop}
 use Rattle.std.specs.shelf.Lists.{removed}
 use Rattle.std.proofs.shelf.Edits.{length-removed, getD-removed-above}
+use Rattle.std.proofs.shelf.Elements.{kept-by-append}
 use Rattle.std.proofs.shelf.Lists.{drop-drop, drop-more, drop-set-lt, getD-drop, getD-take, length-take-le, take-all, take-append-drop, take-at, take-more, take-more-set, take-take}
 use Rattle.place_list.specs.Membership.{One-more}
-use Rattle.place_list.specs.Removal.{Taken-from}
+use Rattle.place_list.specs.Order.{at-place}
+use Rattle.place_list.specs.Removal.{Keeps-turns, Taken-from}
 use Rattle.place_list.proofs.Members.{one-more}
 
 -- Up to i the memory holds what is to be left, and from there on what it held. The first n of the old memory are the items.
@@ -59,3 +62,14 @@ taken-from {X} i x old new l e n = record {
 
 pub taken-one : {X : Type 0} (i : ℕ) (x : X) (old new : List X) → Taken-from i x old new → One-more x new old
 taken-one i x old new t = one-more x (t .before) (t .behind) new old (t .new-is) (t .old-is)
+
+pub taken-turns : {X : Type 0} (place : X → ℕ) (i : ℕ) (x : X) (old new : List X) → Taken-from i x old new → Keeps-turns place x old new
+taken-turns {X} place i x old new t p =
+    let is = λ (y : X). eqb (place y) p in
+    record {
+      before = at-place place p (t .before);
+      behind = at-place place p (t .behind);
+      old-is =
+          ap (at-place place p) (t .old-is) ∙ (kept-by-append is (t .before) (x ∷ t .behind) ∙ ap (λ (s : List X). at-place place p (t .before) ++ s) (kept-by-append is (x ∷ []) (t .behind)));
+      new-is = ap (at-place place p) (t .new-is) ∙ kept-by-append is (t .before) (t .behind);
+    }

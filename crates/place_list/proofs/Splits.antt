@@ -1,16 +1,16 @@
 -- What follows where an item is put in behind those whose place is not greater.
-use mathlib.Core.Bool.{Bool, true, false, cond}
+use mathlib.Core.Bool.{true, false, cond}
 use mathlib.Core.List.{List, [], _∷_, _++_}
 use mathlib.Core.Path.{_≡_, refl, sym, ap, subst, _∙_}
 use Prim.Native.Nat.{ℕ, _+_, _<_, _≤_}
 use native.Mathlib.Omega.{arith}
 use lib.Dec.{eqb, ltb}
-use Rattle.std.specs.shelf.Lists.{All, kept-by}
+use Rattle.std.specs.shelf.Lists.{All}
 use Rattle.std.proofs.shelf.Elements.{kept-by-append}
 use Rattle.std.proofs.shelf.Lists.{append-nil, append-assoc}
 use Rattle.std.proofs.shelf.Tests.{cond-true, cond-false, lt-ltb, le-ltb, eqb-true, ne-eqb}
-use Rattle.place_list.specs.Insertion.{Comes-last, Put-in, at-place, placed-in}
-use Rattle.place_list.specs.Order.{ascends}
+use Rattle.place_list.specs.Insertion.{Comes-last, Put-in, placed-in}
+use Rattle.place_list.specs.Order.{ascends, at-place}
 use Rattle.place_list.proofs.Ascents.{Climbs, climbs, ascends-is}
 
 placed-between : {X : Type 0} (place : X → ℕ) (x : X) (before behind : List X) → All (λ y. place y ≤ place x) before → All (λ y. place x < place y) behind → placed-in place x (before ++ behind) ≡ before ++ x ∷ behind

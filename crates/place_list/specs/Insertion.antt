@@ -3,8 +3,9 @@ use mathlib.Core.Bool.{cond}
 use mathlib.Core.List.{List, [], _∷_, _++_}
 use mathlib.Core.Path.{_≡_}
 use Prim.Native.Nat.{ℕ, _<_, _≤_}
-use lib.Dec.{eqb, ltb}
-use Rattle.std.specs.shelf.Lists.{All, kept-by}
+use lib.Dec.{ltb}
+use Rattle.std.specs.shelf.Lists.{All}
+use Rattle.place_list.specs.Order.{at-place}
 
 -- The sequence with x before the first item of a greater place.
 abbrev pub placed-in : {X : Type 0} → (X → ℕ) → X → List X → List X
@@ -20,10 +21,6 @@ pub record Put-in {X : Type 0} (place : X → ℕ) (x : X) (old new : List X) : 
   pub new-is : new ≡ before ++ x ∷ behind
   pub not-greater : All (λ y. place y ≤ place x) before
   pub greater : All (λ y. place x < place y) behind
-
--- The items at the place p, in the order in which they stand.
-abbrev pub at-place : {X : Type 0} → (X → ℕ) → ℕ → List X → List X
-at-place place p xs = kept-by (λ y. eqb (place y) p) xs
 
 -- At every place the items stand in the order in which they came: x is the last at its place, and the others are as before.
 abbrev pub Comes-last : {X : Type 0} → (X → ℕ) → X → List X → List X → Type 0

@@ -6,7 +6,7 @@ use Rattle.std.specs.shelf.Lists.{removed}
 use Rattle.place_list.specs.Insertion.{Comes-last, Put-in, placed-in}
 use Rattle.place_list.specs.Membership.{One-more}
 use Rattle.place_list.specs.Places.{place-of}
-use Rattle.place_list.specs.Removal.{Taken-from}
+use Rattle.place_list.specs.Removal.{Keeps-turns, Taken-from}
 use Rattle.place_list.specs.Sequence.{Kept, room, sequence}
 use Rattle.place_list.specs.declared.list.PlaceList.{PlaceList}
 use Rattle.place_list.specs.declared.placed.Placed.{Placed}
@@ -27,5 +27,6 @@ pub record Removed {T : Type 0} (i : ℕ) (x : Placed T) (before after : PlaceLi
   pub result : sequence after ≡ removed (sequence before) i
   pub stood : Taken-from i x (sequence before) (sequence after)
   pub members : One-more x (sequence after) (sequence before)
+  pub turns : Keeps-turns place-of x (sequence before) (sequence after)
   pub room-more : room after ≡ room before + 1
   pub kept : Kept before after

@@ -1,4 +1,3 @@
-ghost use Prim.Native.Nat.{ℕ};
 ghost use Rattle.place_list.specs.Finding.{Found};
 ghost use Rattle.place_list.specs.Places.{place-of};
 ghost use Rattle.place_list.specs.Sequence.{sequence};

@@ -1,6 +1,6 @@
 ghost use mathlib.Core.List.{[]};
 ghost use mathlib.Core.Path.{_≡_};
-ghost use Prim.Native.Nat.{ℕ, min};
+ghost use Prim.Native.Nat.{min};
 ghost use denote.Ref.{name};
 ghost use lib.ListN.{length};
 ghost use Rattle.place_list.specs.Sequence.{loan-of, memory-of, room, sequence};

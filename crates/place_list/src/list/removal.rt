@@ -1,10 +1,11 @@
 ghost use mathlib.Core.Path.{_≡_};
-ghost use Prim.Native.Nat.{ℕ, _+_, _<_, _≤_};
+ghost use Prim.Native.Nat.{_+_, _<_, _≤_};
 ghost use lib.ListN.{getD, length};
 ghost use Rattle.std.specs.Options.{Cases};
 ghost use Rattle.std.specs.shelf.Lists.{removed};
 ghost use Rattle.place_list.specs.Membership.{One-more};
-ghost use Rattle.place_list.specs.Removal.{Taken-from};
+ghost use Rattle.place_list.specs.Places.{place-of};
+ghost use Rattle.place_list.specs.Removal.{Keeps-turns, Taken-from};
 ghost use Rattle.place_list.specs.Sequence.{Kept, Unaltered, room, sequence};
 ghost use Rattle.place_list.specs.Steps.{Removed};
 use crate::list::PlaceList;
@@ -18,6 +19,7 @@ impl<'a, T: Copy> PlaceList<'a, T> {
         ensures result { λ r. ⌜ Cases r (Unaltered (now (self .entry)) (now (self .exit))) (λ _. sequence (now (self .exit)) ≡ removed (sequence (now (self .entry))) at) ⌝ }
         ensures stood { λ r. ⌜ Cases r (Unit {0}) (λ x. Taken-from at x (sequence (now (self .entry))) (sequence (now (self .exit)))) ⌝ }
         ensures members { λ r. ⌜ Cases r (Unit {0}) (λ x. One-more x (sequence (now (self .exit))) (sequence (now (self .entry)))) ⌝ }
+        ensures turns { λ r. ⌜ Cases r (Unit {0}) (λ x. Keeps-turns place-of x (sequence (now (self .entry))) (sequence (now (self .exit)))) ⌝ }
         ensures room { λ r. ⌜ Cases r (Unit {0}) (λ _. room (now (self .exit)) ≡ room (now (self .entry)) + 1) ⌝ }
         ensures kept { λ _. ⌜ Kept (now (self .entry)) (now (self .exit)) ⌝ }
     {

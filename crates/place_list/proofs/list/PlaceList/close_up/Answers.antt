@@ -1,12 +1,11 @@
-use mathlib.Core.Path.{_≡_, refl, ap, subst, sym, _∙_}
-use Prim.Native.Nat.{ℕ, min, _+_, _-_, _<_, _≤_}
+use mathlib.Core.Path.{_≡_, refl, sym, _∙_}
+use Prim.Native.Nat.{_+_, _-_, _<_, _≤_}
 use native.Mathlib.Omega.{arith}
-use lib.ListN.{length, getD, set, take, drop}
-use Rattle.std.specs.shelf.Lists.{removed}
+use lib.ListN.{length, getD, set, take}
 use Rattle.std.proofs.shelf.Lists.{getD-default, getD-take, length-set, length-take-le}
 use Rattle.place_list.specs.Places.{place-of}
 use Rattle.place_list.proofs.Ascents.{ascends-over-previous, ascends-removed}
-use Rattle.place_list.proofs.Removals.{closed-all, closed-more, closed-none, taken-from, taken-one}
+use Rattle.place_list.proofs.Removals.{closed-all, closed-more, closed-none, taken-from, taken-one, taken-turns}
 use Rattle.place_list.proofs.list.PlaceList.close_up.Needs as need
 
 pub loop-i-holds : need.loop-i-holds
@@ -88,6 +87,7 @@ returns g c =
       result = left;
       stood = from;
       members = taken-one at x _ _ from;
+      turns = taken-turns place-of at x _ _ from;
       room-more = omega arith;
       kept = record { most-same = most; length-same = same; loan-same = v .3; rest-same = rw end (v .4 .back) };
     }

@@ -1,10 +1,9 @@
-use mathlib.Core.Bool.{true}
 use mathlib.Core.List.{List}
-use mathlib.Core.Path.{_≡_, ap, refl, subst, sym, _∙_}
+use mathlib.Core.Path.{_≡_, ap, subst, sym}
 use Prim.Native.Nat.{ℕ, _-_}
 use native.Mathlib.Omega.{arith}
 use lib.ListN.{take}
-use Rattle.place_list.specs.Order.{Ascending, ascends}
+use Rattle.place_list.specs.Order.{Ascending}
 use Rattle.place_list.specs.Places.{place-of}
 use Rattle.place_list.specs.declared.placed.Placed.{Placed}
 use Rattle.place_list.proofs.Ascents.{ascending}
