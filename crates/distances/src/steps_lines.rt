@@ -20,7 +20,11 @@ fn show_answer(rt: &LibcRuntime, answer: Answer) -> io::Result<()> {
 }
 
 // A question with each of its steps, or the number of its refusal.
-pub(crate) fn show_steps(rt: &LibcRuntime, model: &SheetModel, question: Question) -> io::Result<()> {
+pub(crate) fn show_steps(
+    rt: &LibcRuntime,
+    model: &SheetModel,
+    question: Question,
+) -> io::Result<()> {
     let speed = question.speed.tenths;
     let target = question.target.tenths;
     let grade = question.grade.thousandths;

@@ -1,0 +1,10 @@
+pub mod Finding
+pub mod Insertion
+pub mod Membership
+pub mod Order
+pub mod Places
+pub mod Position
+pub mod Refusals
+pub mod Removal
+pub mod Sequence
+pub mod Steps

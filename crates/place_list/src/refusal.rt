@@ -1,0 +1,8 @@
+mod number;
+
+// Why an insert is refused.
+#[derive(Clone, Copy)]
+pub enum Refusal {
+    // No more items fit.
+    Full,
+}
