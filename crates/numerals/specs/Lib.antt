@@ -1,0 +1,4 @@
+pub mod Digits
+pub mod Numerals
+pub mod Writing
+pub mod Laws
