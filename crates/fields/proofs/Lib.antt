@@ -1,0 +1,2 @@
+mod KeyedParts
+mod Signs

@@ -1,0 +1,4 @@
+pub mod Faults
+pub mod Fields
+pub mod Keys
+pub mod Lines

@@ -1,0 +1,22 @@
+mod cutting;
+mod due;
+mod fault_numbers;
+mod faults;
+mod field;
+mod keys;
+mod line;
+mod reading;
+mod span;
+mod spans;
+
+pub use cutting::cut;
+pub use due::Due;
+pub use faults::TextFault;
+pub use faults::ValueFault;
+pub use faults::ValueFaultFromText;
+pub use field::Field;
+pub use keys::begins_with;
+pub use line::Line;
+pub use reading::field_between;
+pub use reading::read_field;
+pub use span::Span;
