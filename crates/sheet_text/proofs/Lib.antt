@@ -1,0 +1,6 @@
+mod Completeness
+mod FeedFree
+mod Acceptance
+mod LineTexts
+mod Progress
+mod ShortNumbers
