@@ -1,0 +1,3 @@
+mod Joining
+mod Lengths
+mod Taking
