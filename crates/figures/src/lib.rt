@@ -7,10 +7,9 @@ use sheet::Regime;
 use sheet::Service;
 use sheet::Values;
 
-// The sheet of the worked figures, and with it the figures: each follows from the rules of the two models.
-pub fn sheet_a() -> Values
-    ensures values { λ r. ⌜ r ≡ sheet-a ⌝ }
-    ensures figures { λ _. ⌜ Stated ⌝ }
+// Sheet A as it is filled in.
+fn filled_in() -> Values
+    ensures { λ r. ⌜ r ≡ sheet-a ⌝ }
 {
     Values {
         model: Model::Scmt,
@@ -26,4 +25,12 @@ pub fn sheet_a() -> Values
         ti: 30,
         eps: 0,
     }
+}
+
+// The sheet of the worked figures, and with it the figures: each follows from the rules of the two models.
+pub fn sheet_a() -> Values
+    ensures values { λ r. ⌜ r ≡ sheet-a ⌝ }
+    ensures figures { λ _. ⌜ Stated ⌝ }
+{
+    filled_in()
 }

@@ -1,6 +1,6 @@
 -- The times of the brake pipe and the reaction time are bounded.
 use mathlib.Core.Bool.{_&&_}
-use Prim.Native.Nat.{ℕ, _+_, _-_, _*_, max, _≤_}
+use Prim.Native.Nat.{ℕ, _+_, _-_, _*_, _≤_}
 use native.Mathlib.Nat.{mul-le-mul}
 use native.Mathlib.Omega.{arith}
 use lib.Dec.{ltb}
@@ -13,16 +13,16 @@ use Rattle.sheet.specs.declared.words.Service.the-variants.{Passenger, Goods}
 use Rattle.sheet.specs.declared.words.LengthChoice.{LengthChoice}
 use Rattle.sheet.specs.declared.words.LengthChoice.the-variants.{Fixed, Train}
 use Rattle.sheet.specs.declared.values.Values.{Values}
-use Rattle.models.specs.Formulas.{pipe-length, passenger-time, goods-time, pipe-time-by, pipe-time, near-share, near-width, pipe-share, counted-ep, delay, reaction-time}
+use Rattle.models.specs.Formulas.{pipe-length, pipe-time-by, near-share, near-width, pipe-share, counted-ep, delay, reaction-time}
 
 pub square-small : (n : ℕ) → n ≤ 1000 → n * n ≤ 1000000
 square-small n h = omega (arith, mul-le-mul h h)
 
-pub filled-square : (n ep : ℕ) → n ≤ 1000 → n * (1 - ep) * (n * (1 - ep)) ≤ 1000000
-filled-square n ep h =
-    let k : 1 - ep ≤ 1 = omega arith in
-    let filled : n * (1 - ep) ≤ 1000 = omega (arith, mul-le-mul h k) in
-    square-small (n * (1 - ep)) filled
+pub filled-short : (n ep : ℕ) → n ≤ 1000 → n * (1 - ep) ≤ 1000
+filled-short n ep h = let k : 1 - ep ≤ 1 = omega arith in omega (arith, mul-le-mul h k)
+
+filled-square : (n ep : ℕ) → n ≤ 1000 → n * (1 - ep) * (n * (1 - ep)) ≤ 1000000
+filled-square n ep h = square-small (n * (1 - ep)) (filled-short n ep h)
 
 pub pipe-length-bounded : (choice : LengthChoice) (brake : Service) (length : ℕ) → length ≤ 1000 → pipe-length choice brake length ≤ 1000
 pipe-length-bounded Train Passenger length h = h

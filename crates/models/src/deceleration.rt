@@ -1,12 +1,13 @@
 ghost use mathlib.Core.Path.{_≡_};
 ghost use mathlib.Core.Bool.{cond};
-ghost use Prim.Native.Nat.{_-_, _*_, _<_, _≤_};
+ghost use Prim.Native.Nat.{_-_, _*_, _≤_};
 ghost use lib.Dec.{ltb};
 ghost use Rattle.units.specs.Fractions.{whole, ratio};
 ghost use Rattle.models.specs.Formulas.{start, fast, targeted};
 ghost use Rattle.models.specs.Scaling.{Is};
 use crate::factor::Factor;
 use crate::numbers;
+use braking::Approach;
 
 const ONE: Factor = Factor { over: 1, under: 1 };
 
@@ -75,11 +76,10 @@ pub(crate) fn fastest(speed: u64) -> Factor
 }
 
 // A target speed above 0 takes a little off.
-pub(crate) fn targeting(speed: u64, target: u64) -> Factor
-    requires slow { ⌜ speed ≤ 4000 ⌝ }
-    requires lower { ⌜ target < speed ⌝ }
-    ensures { λ r. ⌜ Is (targeted speed target) r ⌝ }
+pub(crate) fn targeting(approach: Approach) -> Factor
+    ensures { λ r. ⌜ Is (targeted (approach .speed .tenths) (approach .target .tenths)) r ⌝ }
 {
+    let (speed, target) = (approach.speed.tenths, approach.target.tenths);
     Factor {
         over: 100 * speed - numbers::TARGET_SHARE * target,
         under: 100 * speed,

@@ -2,10 +2,10 @@ ghost use mathlib.Core.Path.{_≡_};
 ghost use Prim.Native.Nat.{_≤_};
 ghost use lib.IntN.{pos};
 ghost use lib.Signed.{_≤ℤ_};
-ghost use Rattle.braking.specs.Answers.{question-of};
+ghost use Rattle.braking.specs.Answers.{question-of, Asking};
 ghost use Rattle.sheet.specs.declared.words.Model.the-variants.{Etcs as EtcsName};
 ghost use Rattle.stopping.specs.Factors.{rounded-down};
-ghost use Rattle.models.specs.Formulas.{reaction-time, start, factors};
+ghost use Rattle.models.specs.Formulas.{top, counted-ep, reaction-time, start, factors};
 ghost use Rattle.models.specs.Meanings.{meaning-of};
 ghost use Rattle.models.specs.Shown.{Shown};
 use crate::deceleration::counted;
@@ -40,6 +40,13 @@ impl Etcs {
         }
     }
 
+    // ep as etcs counts it: as the sheet has it.
+    fn counted_ep(&self) -> u16
+        ensures { λ r. ⌜ r ≡ counted-ep EtcsName (now (self .entry) .values) ⌝ }
+    {
+        self.values.ep
+    }
+
     // How long the brake takes to act.
     fn reaction_time(&self, approach: Approach) -> Time
         ensures value { λ r. ⌜ r .ticks ≡ reaction-time EtcsName (now (self .entry) .values) (approach .speed .tenths) (approach .target .tenths) ⌝ }
@@ -47,7 +54,7 @@ impl Etcs {
     {
         let values = self.values;
         let length = pipe_length(values.lfren, values.brake, values.length);
-        let pipe = pipe_time(values.brake, length, values.ep);
+        let pipe = pipe_time(values.brake, length, self.counted_ep());
         delayed(numbers::ETCS_SHARE, pipe, numbers::ETCS_DELAY)
     }
 
@@ -58,17 +65,24 @@ impl Etcs {
     {
         let starting = starting(self.values.lambda);
         let shared = counted(self.values.kr).scale(starting);
-        let targeted = targeting(approach.speed.tenths, approach.target.tenths).scale(shared);
+        let targeted = targeting(approach).scale(shared);
         Deceleration {
             units: targeted as i64,
         }
+    }
+
+    // The question as one that the model answers, or why it is turned down.
+    fn ask(&self, question: Question) -> Result<Approach, Refusal>
+        ensures { λ r. ⌜ Asking (top EtcsName (now (self .entry) .values .regime)) (question-of question) r ⌝ }
+    {
+        question.ask(self.top_speed())
     }
 
     // The steps from a question to its answer, or why it is turned down.
     pub fn steps(&self, question: Question) -> Result<Steps, Refusal>
         ensures { λ r. ⌜ Shown EtcsName (now (self .entry) .values) (question-of question) r ⌝ }
     {
-        let approach = question.ask(self.top_speed())?;
+        let approach = self.ask(question)?;
         Ok(work_out(
             approach,
             &self.values,

@@ -24,6 +24,9 @@ pub const PASSENGER_LENGTH: u64 = 650;
 
 pub const GOODS_LENGTH: u64 = 1_000;
 
+// ep as scmt counts it
+pub const SCMT_EP: u16 = 0;
+
 // the pipe times, in millionths of a second, and what a square metre adds
 pub const PASSENGER_PIPE: u64 = 3_500_000;
 

@@ -1,6 +1,6 @@
 ghost use mathlib.Core.Path.{_≡_};
-ghost use Prim.Native.Nat.{_+_, _*_, _≤_};
-ghost use Rattle.models.specs.Formulas.{pipe-length, pipe-time-by, near-share, near-width, scmt-share};
+ghost use Prim.Native.Nat.{_+_, _-_, _*_, _≤_};
+ghost use Rattle.models.specs.Formulas.{pipe-length, passenger-time, goods-time, pipe-time-by, near-share, near-width, scmt-share};
 use crate::numbers;
 use braking::Approach;
 use sheet::LengthChoice;
@@ -20,6 +20,43 @@ pub(crate) fn pipe_length(choice: LengthChoice, brake: Service, length: u16) -> 
     }
 }
 
+// The length in m that the braking has to fill: none where the electro-pneumatic brake works.
+fn filled_length(length: u64, ep: u16) -> u64
+    requires short { ⌜ length ≤ 1000 ⌝ }
+    requires ep { ⌜ ep ≤ 1 ⌝ }
+    ensures value { λ r. ⌜ r ≡ length * (1 - ep) ⌝ }
+    ensures short { λ r. ⌜ r ≤ 1000 ⌝ }
+{
+    length * (1 - u64::from(ep))
+}
+
+// The square of a length in m.
+fn squared(length: u64) -> u64
+    requires { ⌜ length ≤ 1000 ⌝ }
+    ensures value { λ r. ⌜ r ≡ length * length ⌝ }
+    ensures bounded { λ r. ⌜ r ≤ 1000000 ⌝ }
+{
+    length * length
+}
+
+// The time of a passenger brake over a pipe of so many m, in millionths of a second.
+fn passenger_time(length: u64) -> u64
+    requires { ⌜ length ≤ 1000 ⌝ }
+    ensures value { λ r. ⌜ r ≡ passenger-time length ⌝ }
+    ensures bounded { λ r. ⌜ r ≤ 18500000 ⌝ }
+{
+    numbers::PASSENGER_PIPE + numbers::PASSENGER_PIPE_SQUARE * squared(length)
+}
+
+// The time of a goods brake over a pipe of so many m, in millionths of a second.
+fn goods_time(length: u64) -> u64
+    requires { ⌜ length ≤ 1000 ⌝ }
+    ensures value { λ r. ⌜ r ≡ goods-time length ⌝ }
+    ensures bounded { λ r. ⌜ r ≤ 17500000 ⌝ }
+{
+    numbers::GOODS_PIPE + numbers::GOODS_PIPE_SQUARE * squared(length)
+}
+
 // The time until a pipe of so many m has carried the braking to its end, in millionths of a second.
 pub(crate) fn pipe_time(brake: Service, length: u64, ep: u16) -> u64
     requires short { ⌜ length ≤ 1000 ⌝ }
@@ -27,13 +64,11 @@ pub(crate) fn pipe_time(brake: Service, length: u64, ep: u16) -> u64
     ensures value { λ r. ⌜ r ≡ pipe-time-by brake length ep ⌝ }
     ensures bounded { λ r. ⌜ r ≤ 18500000 ⌝ }
 {
-    let filled = length * (1 - u64::from(ep));
-    let passenger = numbers::PASSENGER_PIPE + numbers::PASSENGER_PIPE_SQUARE * (filled * filled);
+    let filled = filled_length(length, ep);
+    let passenger = passenger_time(filled);
     match brake {
         Service::Passenger => passenger,
-        Service::Goods => passenger.max(
-            numbers::GOODS_PIPE + numbers::GOODS_PIPE_SQUARE * (length * length),
-        ),
+        Service::Goods => passenger.max(goods_time(length)),
     }
 }
 

@@ -1,14 +1,15 @@
 ghost use mathlib.Core.Path.{_≡_};
-ghost use Prim.Native.Nat.{_≤_};
+ghost use Prim.Native.Nat.{_<_, _≤_};
 ghost use lib.IntN.{pos};
+ghost use lib.ListN.{getD};
 ghost use lib.Signed.{_≤ℤ_};
-ghost use Rattle.braking.specs.Answers.{question-of};
+ghost use Rattle.braking.specs.Answers.{question-of, Asking};
 ghost use Rattle.sheet.specs.declared.words.Model.the-variants.{Scmt as ScmtName};
 ghost use Rattle.stopping.specs.Factors.{rounded-down};
-ghost use Rattle.models.specs.Formulas.{reaction-time, start, factors};
+ghost use Rattle.models.specs.Formulas.{top, counted-ep, reaction-time, start, factors};
 ghost use Rattle.models.specs.Meanings.{meaning-of};
 ghost use Rattle.models.specs.Shown.{Shown};
-ghost use Rattle.models.specs.Vl.{Greatest, vl};
+ghost use Rattle.models.specs.Vl.{Greatest, entries, vl};
 use crate::deceleration::counted;
 use crate::deceleration::fading;
 use crate::deceleration::faster;
@@ -63,6 +64,14 @@ const FADING_SPEEDS: [u16; 24] = [
     1531,
 ];
 
+// VL at a place of the table.
+fn entry_at(place: u16) -> u16
+    requires { ⌜ place < 24 ⌝ }
+    ensures { λ r. ⌜ r ≡ getD entries place 0 ⌝ }
+{
+    FADING_SPEEDS[place as usize]
+}
+
 impl Scmt {
     // The model with the values of an admitted sheet.
     pub fn new(sheet: &Admitted) -> Scmt
@@ -78,10 +87,17 @@ impl Scmt {
         ensures value { λ r. ⌜ r .tenths ≡ vl (now (self .entry) .values .lambda) ⌝ }
         ensures rule { λ r. ⌜ Greatest (now (self .entry) .values .lambda) (r .tenths) ⌝ }
     {
-        let entry = (self.values.lambda - 45) / 5;
+        let place = (self.values.lambda - 45) / 5;
         Speed {
-            tenths: u64::from(FADING_SPEEDS[entry as usize]),
+            tenths: u64::from(entry_at(place)),
         }
+    }
+
+    // ep as scmt counts it: never, whatever the sheet has.
+    fn counted_ep(&self) -> u16
+        ensures { λ r. ⌜ r ≡ counted-ep ScmtName (now (self .entry) .values) ⌝ }
+    {
+        numbers::SCMT_EP
     }
 
     // How long the brake takes to act.
@@ -91,7 +107,7 @@ impl Scmt {
     {
         let values = self.values;
         let length = pipe_length(values.lfren, values.brake, values.length);
-        let pipe = pipe_time(values.brake, length, 0);
+        let pipe = pipe_time(values.brake, length, self.counted_ep());
         let share = scmt_share(values.train, values.brake, approach);
         delayed(share, pipe, numbers::SCMT_DELAY)
     }
@@ -107,17 +123,24 @@ impl Scmt {
         let shared = counted(self.values.kr).scale(faded);
         let fast = faster(speed).scale(shared);
         let very_fast = fastest(speed).scale(fast);
-        let targeted = targeting(speed, approach.target.tenths).scale(very_fast);
+        let targeted = targeting(approach).scale(very_fast);
         Deceleration {
             units: targeted as i64,
         }
+    }
+
+    // The question as one that the model answers, or why it is turned down.
+    fn ask(&self, question: Question) -> Result<Approach, Refusal>
+        ensures { λ r. ⌜ Asking (top ScmtName (now (self .entry) .values .regime)) (question-of question) r ⌝ }
+    {
+        question.ask(self.top_speed())
     }
 
     // The steps from a question to its answer, or why it is turned down.
     pub fn steps(&self, question: Question) -> Result<Steps, Refusal>
         ensures { λ r. ⌜ Shown ScmtName (now (self .entry) .values) (question-of question) r ⌝ }
     {
-        let approach = question.ask(self.top_speed())?;
+        let approach = self.ask(question)?;
         Ok(work_out(
             approach,
             &self.values,

@@ -1,5 +1,5 @@
 ghost use mathlib.Core.Path.{_≡_};
-ghost use lib.IntN.{pos, negsuc};
+ghost use lib.IntN.{pos, negsuc, _*ℤ_};
 ghost use lib.Signed.{_≤ℤ_};
 ghost use Rattle.stopping.specs.Slopes.{share-of, slope-of};
 use braking::Approach;
@@ -31,13 +31,22 @@ fn share(grade: Grade) -> i64
     }
 }
 
+// What gravity does on a grade, in hundredths of a thousandth: below zero downhill.
+fn by_gravity(hundredths: i64) -> Deceleration
+    requires not_below { ⌜ negsuc 3849 ≤ℤ hundredths ⌝ }
+    requires not_above { ⌜ hundredths ≤ℤ pos 3150 ⌝ }
+    ensures { λ r. ⌜ r .units ≡ hundredths *ℤ pos 981 ⌝ }
+{
+    Deceleration {
+        units: hundredths * THOUSANDTH,
+    }
+}
+
 // What the grade adds to the deceleration, below zero downhill: 981 units for a thousandth and a hundredth of its share.
 pub fn slope(approach: Approach) -> Deceleration
     ensures value { λ r. ⌜ r .units ≡ slope-of (approach .grade .thousandths) ⌝ }
     ensures not_below { λ r. ⌜ negsuc 4199999 ≤ℤ r .units ⌝ }
     ensures not_above { λ r. ⌜ r .units ≤ℤ pos 4200000 ⌝ }
 {
-    Deceleration {
-        units: share(approach.grade) * approach.grade.thousandths * THOUSANDTH,
-    }
+    by_gravity(share(approach.grade) * approach.grade.thousandths)
 }

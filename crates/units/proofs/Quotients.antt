@@ -1,13 +1,10 @@
--- The three ways of rounding a quotient do what they are named for.
+-- Rounding a quotient up and down does what it is named for.
 use mathlib.Core.Path.{_≡_}
 use mathlib.Core.Logic.{inl, inr}
 use Prim.Native.Nat.{ℕ, suc, _+_, _*_, _/_, _%_, min, _<_, _≤_}
 use native.Mathlib.Nat.{eq-zero-or-pos, div-add-mod', mod-lt, div-le-self, lt-of-mul-lt-mul-right}
 use native.Mathlib.Omega.{arith}
-use lib.IntN.{ℤ, pos, negsuc, _+ℤ_, _*ℤ_}
-use lib.Signed.{_<ℤ_, _≤ℤ_}
-use Rattle.std.proofs.shelf.Signed.{ints}
-use Rattle.units.specs.Rounding.{ceiling, floor, RoundedUp, RoundedDown, Floored}
+use Rattle.units.specs.Rounding.{ceiling, RoundedUp, RoundedDown}
 
 pub rounded-up : (a b : ℕ) → 0 < b → RoundedUp a b (ceiling a b)
 rounded-up a b h = elim (eq-zero-or-pos (a % b)) [
@@ -28,11 +25,3 @@ ceiling-at-most a b = omega (arith, div-le-self a b)
 
 pub rounded-down : (a b : ℕ) → 0 < b → RoundedDown a b (a / b)
 rounded-down a b h = record { within = omega (arith, div-add-mod' a b); greatest = omega (arith, div-add-mod' a b, mod-lt a h) }
-
-pub floored : (z : ℤ) (b : ℕ) → 0 < b → Floored z b (floor z b)
-floored (pos a) b h =
-    let d = rounded-down a b h in
-    record { within = omega (arith, ints, d .within); greatest = omega (arith, ints, d .greatest) }
-floored (negsuc a) b h =
-    let d = rounded-down a b h in
-    record { within = omega (arith, ints, d .within, d .greatest); greatest = omega (arith, ints, d .within, d .greatest) }

@@ -1,6 +1,5 @@
-use mathlib.Core.Path.{refl}
 use Rattle.figures.proofs.Worked.{stated}
 use Rattle.figures.proofs.sheet_a.Needs as need
 
 pub returns : need.returns
-returns c = record { values = refl; figures = stated }
+returns c = record { values = c .filled-in .ensures; figures = stated }

@@ -6,6 +6,6 @@ use Rattle.units.proofs.rounding.quotient_up.Needs as need
 
 pub returns : need.returns
 returns c = record {
-  value = c .div-ceil .ensures;
-  meaning = subst (λ (r : ℕ). RoundedUp (c .args .over) (c .args .under .value) r) (sym (c .div-ceil .ensures)) (rounded-up (c .args .over) (c .args .under .value) (c .args .under .above));
+  value = c .ceiling-of .ensures;
+  meaning = subst (λ (r : ℕ). RoundedUp (c .args .over) (c .args .under .value) r) (sym (c .ceiling-of .ensures)) (rounded-up (c .args .over) (c .args .under .value) (c .args .under .above));
 }

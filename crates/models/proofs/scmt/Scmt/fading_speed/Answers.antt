@@ -1,4 +1,4 @@
-use mathlib.Core.Path.{_≡_, subst, sym}
+use mathlib.Core.Path.{_≡_, subst, sym, _∙_}
 use Prim.Native.Nat.{ℕ}
 use Rattle.sheet.proofs.Limits.{limits}
 use Rattle.models.specs.Vl.{Greatest, vl}
@@ -10,7 +10,7 @@ unfolding vl
 returns c =
     let values = c .args .self .now .values in
     let within = limits values (c .args .self .now .fine) in
-    let value : c .from .result ≡ vl (values .lambda) = c .from .ensures in
+    let value : c .from .result ≡ vl (values .lambda) = c .from .ensures ∙ c .entry-at .ensures in
     record {
       value = value;
       rule = subst (λ (n : ℕ). Greatest (values .lambda) n) (sym value) (greatest (values .lambda) (within .lambda-least) (within .lambda-most) (within .lambda-fives));

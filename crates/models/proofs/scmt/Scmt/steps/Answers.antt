@@ -15,5 +15,5 @@ work-out-requires c κs =
 
 pub returns : need.returns
 returns c =
-    shown _ (c .args .self .now .values) _ _ (c .in-Continue-approach .approach) _ _ _ (c .top-speed .ensures) (c .in-Continue-approach .ensures tt)
+    shown _ (c .args .self .now .values) _ (c .in-Continue-approach .approach) _ _ _ (c .in-Continue-approach .ensures tt)
     (c .reaction-time .ensures .value) (c .braking .ensures .value) (c .work-out .ensures)

@@ -1,4 +1,4 @@
-use Prim.Native.Nat.{ℕ, _+_, _-_, _*_, _<_, _≤_}
+use Prim.Native.Nat.{ℕ, _-_, _*_, _≤_}
 use native.Mathlib.Nat.{mul-le-mul}
 use native.Mathlib.Omega.{arith}
 use Rattle.units.specs.Rounding.{ceiling}
@@ -18,44 +18,45 @@ lead-small t B h k = omega (arith, ceiling-at-most (t * B) 360, mul-le-mul h k)
 pub sub-steps : need.sub-steps
 sub-steps c = mul-le-mul (c .pre .reaches) (c .pre .reaches)
 
-pub mul-steps-2 : need.mul-steps-2
-mul-steps-2 c = omega (arith, mul-le-mul (c .pre .bounded) (c .pre .bounded))
+pub braking-term-braking-requires : need.braking-term-braking-requires
+braking-term-braking-requires c κs = record {
+  bounded = omega (arith, mul-le-mul (c .pre .bounded) (c .pre .bounded));
+  strong = c .pre .strong;
+  small = c .pre .small;
+}
 
 pub add-control : need.add-control
 add-control c =
     omega (
       arith,
-      c .quotient-up-reaction .ensures .value,
-      c .quotient-up-braking .ensures .value,
+      c .reaction-term-reaction .ensures,
+      c .braking-term-braking .ensures,
       reaction-small (c .args .self .now .reaction .ticks) (c .args .reached .steps) (c .args .self .now .brief) (c .pre .bounded),
       braking-small (c .args .reached .steps) (1000 * c .args .self .now .target .tenths) (162 * c .args .net) (c .pre .bounded),
     )
 
 pub add-warning : need.add-warning
 add-warning c =
-    let tw-brief : c .from .result ≤ 100 = omega (arith, c .from .ensures, c .args .self .now .«tw_brief») in
     omega (
       arith,
-      c .quotient-up-reaction .ensures .value,
-      c .quotient-up-braking .ensures .value,
-      c .quotient-up .ensures .value,
+      c .reaction-term-reaction .ensures,
+      c .braking-term-braking .ensures,
+      c .lead-term .ensures,
       reaction-small (c .args .self .now .reaction .ticks) (c .args .reached .steps) (c .args .self .now .brief) (c .pre .bounded),
       braking-small (c .args .reached .steps) (1000 * c .args .self .now .target .tenths) (162 * c .args .net) (c .pre .bounded),
-      lead-small (c .from .result) (c .args .reached .steps) tw-brief (c .pre .bounded),
+      lead-small (c .args .self .now .tw) (c .args .reached .steps) (c .args .self .now .«tw_brief») (c .pre .bounded),
     )
 
 pub add-nominal : need.add-nominal
 add-nominal c =
-    let tw-brief : c .from .result ≤ 100 = omega (arith, c .from .ensures, c .args .self .now .«tw_brief») in
-    let ti-brief : c .from-2 .result ≤ 100 = omega (arith, c .from-2 .ensures, c .args .self .now .«ti_brief») in
     omega (
       arith,
-      c .quotient-up-reaction .ensures .value,
-      c .quotient-up-braking .ensures .value,
-      c .quotient-up .ensures .value,
-      c .quotient-up-2 .ensures .value,
+      c .reaction-term-reaction .ensures,
+      c .braking-term-braking .ensures,
+      c .lead-term .ensures,
+      c .lead-term-2 .ensures,
       reaction-small (c .args .self .now .reaction .ticks) (c .args .reached .steps) (c .args .self .now .brief) (c .pre .bounded),
       braking-small (c .args .reached .steps) (1000 * c .args .self .now .target .tenths) (162 * c .args .net) (c .pre .bounded),
-      lead-small (c .from .result) (c .args .reached .steps) tw-brief (c .pre .bounded),
-      lead-small (c .from-2 .result) (c .args .reached .steps) ti-brief (c .pre .bounded),
+      lead-small (c .args .self .now .tw) (c .args .reached .steps) (c .args .self .now .«tw_brief») (c .pre .bounded),
+      lead-small (c .args .self .now .ti) (c .args .reached .steps) (c .args .self .now .«ti_brief») (c .pre .bounded),
     )

@@ -1,6 +1,6 @@
-use mathlib.Core.Path.{_≡_, sym, _∙_}
+use mathlib.Core.Path.{_≡_, _∙_}
 use mathlib.Core.Logic.{_⊎_, inl, inr}
-use Prim.Native.Nat.{ℕ, _+_, _*_, _<_, _≤_}
+use Prim.Native.Nat.{ℕ, _*_, _<_, _≤_}
 use native.Mathlib.Nat.{le-trans}
 use native.Mathlib.Omega.{arith}
 use lib.IntN.{ℤ, pos, negsuc, _-ℤ_, _*ℤ_, natAbs}
@@ -27,9 +27,21 @@ product-fits T G h low high = let l = loss-not-below T G h low in let u = loss-n
 slope-fits : (G : ℤ) → negsuc 4199999 ≤ℤ G → G ≤ℤ pos 4200000 → SFits w64 G
 slope-fits G low high = omega (arith, ints)
 
-uncast-reached : (V : ℕ) (q : ℤ) → V ≤ 4000 → negsuc 907199 ≤ℤ q → q ≤ℤ pos 907200 → toZ w64 (ofZ w64 (toZ w64 (ofZ w64 (pos 1000 *ℤ toZ w64 V)) -ℤ toZ w64 (ofZ w64 q))) ≡ pos (1000 * V) -ℤ q
-uncast-reached V (pos n) h low high = omega (arith, ints)
-uncast-reached V (negsuc n) h low high = omega (arith, ints)
+-- the loss that is rounded down, without the casts of its product
+loss-floored : (T : ℕ) (G q : ℤ) → T ≤ 6000000000 → negsuc 4199999 ≤ℤ G → G ≤ℤ pos 4200000 →
+    Floored (toZ w64 (ofZ w64 (toZ w64 (ofZ w64 (pos 9 *ℤ toZ w64 T)) *ℤ toZ w64 (ofZ w64 G)))) 250000000000 q → Floored (pos (9 * T) *ℤ G) 250000000000 q
+loss-floored T G q h low high f =
+    let e : toZ w64 (ofZ w64 (pos 9 *ℤ toZ w64 T)) ≡ pos (9 * T) = omega (arith, ints) in
+    let k : toZ w64 (ofZ w64 G) ≡ G = toZ-ofZ w64 G (slope-fits G low high) in
+    let j : toZ w64 (ofZ w64 (pos (9 * T) *ℤ G)) ≡ pos (9 * T) *ℤ G = toZ-ofZ w64 _ (product-fits T G h low high) in
+    simp (e, k, j) at f
+
+loss-within : (T : ℕ) (G q : ℤ) → T ≤ 6000000000 → negsuc 4199999 ≤ℤ G → G ≤ℤ pos 4200000 → Floored (pos (9 * T) *ℤ G) 250000000000 q → (negsuc 907199 ≤ℤ q) × (q ≤ℤ pos 907200)
+loss-within T G q h low high f = loss-small (pos (9 * T) *ℤ G) q f (loss-not-below T G h low) (loss-not-above T G h high)
+
+uncast-reached : (V : ℕ) (q r : ℤ) → V ≤ 4000 → negsuc 907199 ≤ℤ q → q ≤ℤ pos 907200 → r ≡ pos (1000 * V) -ℤ toZ w64 (ofZ w64 q) → toZ w64 (ofZ w64 r) ≡ pos (1000 * V) -ℤ q
+uncast-reached V (pos n) r h low high is = rw is (omega (arith, ints))
+uncast-reached V (negsuc n) r h low high is = rw is (omega (arith, ints))
 
 uncast-target : (V : ℕ) → V ≤ 4000 → toZ w64 (ofZ w64 (pos 1000 *ℤ toZ w64 V)) ≡ pos (1000 * V)
 uncast-target V h = omega (arith, ints)
@@ -60,21 +72,23 @@ mul-self-2 c =
     let k : toZ w64 (ofZ w64 G) ≡ G = toZ-ofZ w64 G (slope-fits G (c .args .self .now .«not_steeper_down») (c .args .self .now .«not_steeper_up»)) in
     simp (e, k) (product-fits T G (c .args .self .now .brief) (c .args .self .now .«not_steeper_down») (c .args .self .now .«not_steeper_up»))
 
+pub after-loss-reached-requires : need.after-loss-reached-requires
+after-loss-reached-requires c κs =
+    let self = c .args .self .now in
+    let q : ℤ = c .quotient-floor-loss .result in
+    let f = loss-floored (self .reaction .ticks) (self .slope .units) q (self .brief) (self .«not_steeper_down») (self .«not_steeper_up») (c .quotient-floor-loss .ensures .meaning) in
+    let small = loss-within (self .reaction .ticks) (self .slope .units) q (self .brief) (self .«not_steeper_down») (self .«not_steeper_up») f in
+    record { slow = self .slow; not-below = omega (arith, ints, small .0, small .1); not-above = omega (arith, ints, small .0, small .1) }
+
 pub cast-result : need.cast-result
 cast-result c = let h = c .max .ensures .other-bound in (omega (arith, ints, c .max .ok), omega (arith, ints, c .max .ok))
 
 pub returns : need.returns
 returns c =
-    let T : ℕ = c .args .self .now .reaction .ticks in
-    let G : ℤ = c .args .self .now .slope .units in
-    let e : toZ w64 (ofZ w64 (pos 9 *ℤ toZ w64 T)) ≡ pos (9 * T) = omega (arith, ints, c .args .self .now .brief) in
-    let k : toZ w64 (ofZ w64 G) ≡ G = toZ-ofZ w64 G (slope-fits G (c .args .self .now .«not_steeper_down») (c .args .self .now .«not_steeper_up»)) in
-    let p : SFits w64 (pos (9 * T) *ℤ G) = product-fits T G (c .args .self .now .brief) (c .args .self .now .«not_steeper_down») (c .args .self .now .«not_steeper_up») in
-    let j : toZ w64 (ofZ w64 (pos (9 * T) *ℤ G)) ≡ pos (9 * T) *ℤ G = toZ-ofZ w64 _ p in
-    let f : Floored (pos (9 * T) *ℤ G) 250000000000 (c .quotient-floor-loss .result) = simp (e, k, j) at (c .quotient-floor-loss .ensures .meaning) in
-    let small = loss-small (pos (9 * T) *ℤ G) (c .quotient-floor-loss .result) f (loss-not-below T G (c .args .self .now .brief) (c .args .self .now .«not_steeper_down»)) (loss-not-above T G (c .args .self .now .brief) (c .args .self .now .«not_steeper_up»)) in
-    let V : ℕ = c .args .self .now .speed .tenths in
-    let V0 : ℕ = c .args .self .now .target .tenths in
-    let a = uncast-reached V (c .quotient-floor-loss .result) (c .args .self .now .slow) (small .0) (small .1) in
-    let b = uncast-target V0 (le-trans (c .args .self .now .lower) (c .args .self .now .slow)) in
-    returned (stop-of (c .args .self .now) (whole 0)) (c .quotient-floor-loss .result) (c .max .result) f (c .max .ok) (simp (a, b) at (c .max .ensures .value)) (limited (c .args .self .now) (whole 0))
+    let self = c .args .self .now in
+    let q : ℤ = c .quotient-floor-loss .result in
+    let f = loss-floored (self .reaction .ticks) (self .slope .units) q (self .brief) (self .«not_steeper_down») (self .«not_steeper_up») (c .quotient-floor-loss .ensures .meaning) in
+    let small = loss-within (self .reaction .ticks) (self .slope .units) q (self .brief) (self .«not_steeper_down») (self .«not_steeper_up») f in
+    let a = uncast-reached (self .speed .tenths) q (c .after-loss-reached .result) (self .slow) (small .0) (small .1) (c .after-loss-reached .ensures) in
+    let b = uncast-target (self .target .tenths) (le-trans (self .lower) (self .slow)) in
+    returned (stop-of self (whole 0)) q (c .max .result) f (c .max .ok) (simp (a, b) at (c .max .ensures .value)) (limited self (whole 0))

@@ -1,13 +1,12 @@
 use mathlib.Core.Path.{_≡_, refl, sym, subst, ap, _∙_}
-use mathlib.Core.Bool.{true, false, cond}
-use Prim.Native.Nat.{ℕ, _+_, _*_, _≤_}
+use mathlib.Core.Bool.{true, false}
+use Prim.Native.Nat.{ℕ, _+_}
 use native.Mathlib.Omega.{arith}
 use lib.IntN.{ℤ, pos, negsuc, _+ℤ_, natAbs}
-use lib.Signed.{ltZ, _≤ℤ_, _<ℤ_}
-use mir.Val.{SFits, toZ, ofZ}
+use lib.Signed.{ltZ, _≤ℤ_}
+use mir.Val.{toZ, ofZ}
 use mir.Syntax.{w64}
-use Rattle.std.proofs.shelf.Signed.{ints, toZ-ofZ}
-use Rattle.units.specs.Fractions.{Fraction}
+use Rattle.std.proofs.shelf.Signed.{ints}
 use Rattle.braking.specs.Answers.{Says}
 use Rattle.braking.specs.declared.answer.Answer.{Answer}
 use Rattle.braking.specs.declared.answer.Answer.the-variants.{Weak, Strong}
@@ -20,9 +19,9 @@ use Rattle.stopping.proofs.Margin.{lawful, uncut}
 use Rattle.stopping.proofs.stop.Stop.steps.Needs as need
 use Rattle.stopping.proofs.stop.Stop.steps.Needs.{then-is-weak, else-is-weak}
 
-net-is : (b G : ℤ) → pos 0 ≤ℤ b → b ≤ℤ pos 1000000000 → negsuc 4199999 ≤ℤ G → G ≤ℤ pos 4200000 → toZ w64 (ofZ w64 (toZ w64 (ofZ w64 b) +ℤ toZ w64 (ofZ w64 G))) ≡ pos (natural b) +ℤ G
-net-is (pos n) G h k low high = omega (arith, ints)
-net-is (negsuc n) G h k low high = omega (arith, ints)
+natural-is : (z : ℤ) → pos 0 ≤ℤ z → z ≡ pos (natural z)
+natural-is (pos n) h = refl
+natural-is (negsuc n) h = omega (arith, ints)
 
 net-fits : (b G : ℤ) → pos 0 ≤ℤ b → b ≤ℤ pos 1000000000 → negsuc 4199999 ≤ℤ G → G ≤ℤ pos 4200000 → toZ w64 (ofZ w64 (pos (natural b) +ℤ G)) ≡ pos (natural b) +ℤ G
 net-fits (pos n) G h k low high = omega (arith, ints)
@@ -52,9 +51,10 @@ pub returns : need.returns
 unfolding reached-up reached
 returns c =
     let self = c .args .self .now in
-    let is-net = net-is (self .braking .units) (self .slope .units) (self .«braking_on») (self .«braking_bounded») (self .«not_steeper_down») (self .«not_steeper_up») in
-    let fits = net-fits (self .braking .units) (self .slope .units) (self .«braking_on») (self .«braking_bounded») (self .«not_steeper_down») (self .«not_steeper_up») in
-    let tested : c .is-weak .result ≡ ltZ (pos (natural (self .braking .units)) +ℤ self .slope .units) (pos 500000) = simp is-net at (c .is-weak .ensures) in
+    let G : ℤ = self .slope .units in
+    let is-net : c .net-net .result .units ≡ pos (natural (self .braking .units)) +ℤ G = c .net-net .ensures ∙ ap (λ (z : ℤ). z +ℤ G) (natural-is (self .braking .units) (self .«braking_on»)) in
+    let fits = net-fits (self .braking .units) G (self .«braking_on») (self .«braking_bounded») (self .«not_steeper_down») (self .«not_steeper_up») in
+    let tested : c .is-weak .result ≡ ltZ (pos (natural (self .braking .units)) +ℤ G) (pos 500000) = simp is-net at (c .is-weak .ensures) in
     record {
       worked = λ exact. record {
         reaction = refl;
