@@ -11,7 +11,7 @@ use std::io;
 use units::Distance;
 
 // Fills a list that has room for three, overfills it, takes one from the middle, and fills it again.
-pub fn go_round<T: Copy + Keyed>(
+pub(crate) fn go_round<T: Copy + Keyed>(
     rt: &LibcRuntime,
     list: &mut PlaceList<'_, T>,
     four: [Placed<T>; 4],
@@ -33,7 +33,7 @@ pub fn go_round<T: Copy + Keyed>(
 }
 
 // Inserts an item, and says what came of it.
-pub fn offer<T: Copy + Keyed>(
+pub(crate) fn offer<T: Copy + Keyed>(
     rt: &LibcRuntime,
     list: &mut PlaceList<'_, T>,
     new: Placed<T>,
@@ -109,7 +109,7 @@ fn found(rt: &LibcRuntime, index: Option<usize>) -> io::Result<()> {
 }
 
 // The items in order, and the room for more.
-pub fn show<T: Copy + Keyed>(rt: &LibcRuntime, list: &PlaceList<'_, T>) -> io::Result<()> {
+pub(crate) fn show<T: Copy + Keyed>(rt: &LibcRuntime, list: &PlaceList<'_, T>) -> io::Result<()> {
     println!(rt, "{} in use, room for {}", list.len(), list.room())?;
     for x in list.items() {
         println!(rt, "  {} at {}", x.item.key(), x.place.millimetres)?;
@@ -118,7 +118,7 @@ pub fn show<T: Copy + Keyed>(rt: &LibcRuntime, list: &PlaceList<'_, T>) -> io::R
 }
 
 // Lends memory to a list, inserts one item, and has the whole memory back.
-pub fn lend<'a, T: Copy>(memory: &'a mut [Placed<T>], new: Placed<T>) -> &'a mut [Placed<T>]
+pub(crate) fn lend<'a, T: Copy>(memory: &'a mut [Placed<T>], new: Placed<T>) -> &'a mut [Placed<T>]
     ensures { λ r. ⌜ length (now r) ≡ length (now (memory .entry)) ⌝ }
 {
     let mut list = PlaceList::new(memory, 1);

@@ -21,6 +21,7 @@ impl<'a, T: Copy> PlaceList<'a, T> {
         ensures members { λ r. ⌜ Cases r (Unit {0}) (λ x. One-more x (sequence (now (self .exit))) (sequence (now (self .entry)))) ⌝ }
         ensures turns { λ r. ⌜ Cases r (Unit {0}) (λ x. Keeps-turns place-of x (sequence (now (self .entry))) (sequence (now (self .exit)))) ⌝ }
         ensures room { λ r. ⌜ Cases r (Unit {0}) (λ _. room (now (self .exit)) ≡ room (now (self .entry)) + 1) ⌝ }
+        ensures next_fits { λ r. ⌜ Cases r (Unit {0}) (λ _. 0 < room (now (self .exit))) ⌝ }
         ensures kept { λ _. ⌜ Kept (now (self .entry)) (now (self .exit)) ⌝ }
     {
         if at >= self.len {
