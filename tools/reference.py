@@ -3,6 +3,8 @@
 
   tools/reference.py distances    > crates/distances/stdout
   tools/reference.py model_cases  > crates/model_cases/stdout
+  tools/reference.py sheet_texts  > crates/sheet_text_cases/stdin     (texts, each ended by a byte 1)
+  tools/reference.py sheet_answers > crates/sheet_text_cases/stdout
 """
 import sys
 from fractions import Fraction as F
@@ -27,6 +29,8 @@ CASES = [
     sheet("etcs E M M 1 80 333 LT 88 15 25 3"),
     sheet("etcs P V V 1 160 1000 LT 150 100 0 0"),
     sheet("etcs P M V 0 50 999 LD 61 1 2 5"),
+    {**A, "lambda": 45, "kr": 30},
+    {**A, "model": "etcs", "kr": 57},
 ]
 SPEEDS = [1, 299, 599, 600, 1000, 1244, 1500, 1501, 2600, 2601, 3100, 3300, 4000, 4001]
 TARGETS = [0, 300, 1450]
@@ -35,15 +39,6 @@ GRADES = [-36, -35, -21, -20, 0, 1, 35, 36]
 
 def top(s):
     return {("scmt", "E"): 2600, ("scmt", "P"): 3100, ("etcs", "E"): 3300, ("etcs", "P"): 4000}[s["model"], s["regime"]]
-
-
-def refused_draft(s):
-    lam = s["lambda"]
-    ok = (s["ep"] <= 1 and 45 <= lam <= 160 and lam % 5 == 0 and s["length"] <= 1000 and 30 <= s["kr"] <= 150
-          and s["tw"] <= 100 and s["ti"] <= 100 and s["eps"] <= 20)
-    if not ok:
-        return 4
-    return 6 if s["brake"] == "M" and s["train"] != "M" else 0
 
 
 def refused(s, v, v0, grade):
@@ -116,29 +111,21 @@ def steps(s, v, v0, grade):
     return t, g, big_b, int(big_d), computed
 
 
-def show_distances(s, questions):
+def distances():
+    s = A
     for k in KEYS:
         print(f"{k}={s[k]}")
-    if refused_draft(s):
-        print(f"answer={refused_draft(s)}\n")
-        return
     print("admitted")
-    for v, v0, grade in questions:
-        print(f"\nspeed={v} target={v0} grade={grade}")
-        if refused(s, v, v0, grade):
-            print(f"answer={refused(s, v, v0, grade)}")
-            continue
-        t, g, b, d, three = steps(s, v, v0, grade)
-        print(f"reaction={t}\nslope={g}\nreached={b}\nnet={d}")
-        print("weak" if three is None else "control={}\nwarning={}\nnominal={}".format(*three))
-    print()
-
-
-def distances():
-    show_distances(A, [(1000, 0, 0), (1000, 0, -21), (599, 300, 0), (600, 300, 0), (2600, 0, 1), (2601, 0, 0), (1000, 0, -36), (300, 300, 0)])
-    show_distances({**A, "lambda": 45, "kr": 30}, [(1000, 0, -35)])
-    show_distances({**A, "model": "etcs", "kr": 57}, [(1000, 0, 0)])
-    show_distances({**A, "kr": 151}, [])
+    v, v0, grade = 1000, 0, 0
+    print(f"speed={v} target={v0} grade={grade}")
+    t, g, b, d, three = steps(s, v, v0, grade)
+    print(f"reaction={t}\nslope={g}\nreached={b}\nnet={d}")
+    print("weak" if three is None else "control={}\nwarning={}\nnominal={}".format(*three))
+    print("speed grade control warning nominal")
+    for v in range(100, top(s) + 1, 100):
+        for grade in [-35, -21, -20, -10, 0, 10, 35]:
+            three = steps(s, v, 0, grade)[4]
+            print(v, grade, *(three or ["weak", "-", "-"]))
 
 
 def model_cases():
@@ -154,4 +141,93 @@ def model_cases():
                     print(n, v, v0, grade, t, g, b, d, *(["weak"] if three is None else three))
 
 
-{"distances": distances, "model_cases": model_cases}[sys.argv[1]]()
+WORDS = {"model": ["scmt", "etcs"], "regime": ["E", "P"], "train": ["V", "M"], "brake": ["V", "M"], "lfren": ["LD", "LT"]}
+RANGES = {"ep": (0, 1), "lambda": (45, 160), "length": (0, 1000), "kr": (30, 150), "tw": (0, 100), "ti": (0, 100), "eps": (0, 20)}
+GOOD = b"".join(f"{k}={A[k]}\n".encode() for k in KEYS)
+
+
+def read_text(text):
+    """What reading a text answers, by the questions in their order."""
+    at, seen = 0, {}
+    for key in KEYS:
+        end = text.find(b"\n", at, at + 32)
+        if end < 0:
+            return 1, at, "text"
+        front = key.encode() + b"="
+        if not text[at:end].startswith(front):
+            return 2, at, "text"
+        first = at + len(front)
+        value = text[first:end].decode("latin-1")
+        if key in WORDS:
+            if value not in WORDS[key]:
+                return 3, first, "text"
+        else:
+            digits = value != "" and all(c in "0123456789" for c in value)
+            if not digits or len(value) > 4 or (value[0] == "0" and value != "0"):
+                return 3, first, "text"
+            low, high = RANGES[key]
+            if not low <= int(value) <= high or (key == "lambda" and int(value) % 5):
+                return 4, first, "value"
+        seen[key] = value
+        at = end + 1
+    if at != len(text):
+        return 5, at, "sheet"
+    if seen["brake"] == "M" and seen["train"] != "M":
+        return 6, 0, "sheet"
+    return None
+
+
+def texts():
+    lines = GOOD.splitlines(keepends=True)
+    yield GOOD
+    yield b""
+    yield b"\n"
+    yield GOOD[:-1]
+    yield GOOD + b"x"
+    yield GOOD + b"\n"
+    yield GOOD + GOOD
+    yield b"\x00" * 40
+    yield bytes(range(128, 168)) + b"\n"
+    for n, line in enumerate(lines):
+        key = KEYS[n].encode()
+        others = lambda new: b"".join(lines[:n]) + new + b"".join(lines[n + 1:])
+        yield others(b"")
+        yield b"".join(lines[:n])
+        yield b"".join(lines[:n]) + line[:-1]
+        yield others(line + line)
+        yield others(line[1:])
+        yield others(b" " + line)
+        yield others(key[:-1] + b"x" + line[len(key):])
+        yield others(key + b":" + line[len(key) + 1:])
+        yield others(key + b"\n")
+        yield others(line.upper())
+        for value in [b"", b" ", b"0", b"00", b"007", b"1", b"2", b"-1", b"+1", b"10000", b"9999", b"12 ", b"1\r", b"\xff", b"\x00", b"scmt", b"etcs", b"scmts", b"E", b"P", b"e", b"V", b"M", b"LD", b"LT", b"L"]:
+            yield others(key + b"=" + value + b"\n")
+        for size in [30, 31, 32, 33]:
+            yield others(key + b"=" + b"1" * (size - len(key) - 2) + b"\n")
+        if n + 1 < len(lines):
+            yield b"".join(lines[:n]) + lines[n + 1] + line + b"".join(lines[n + 2:])
+        for number in RANGES.get(KEYS[n], ()):
+            for near in (number - 5, number - 1, number, number + 1, number + 5):
+                if near >= 0:
+                    yield others(key + b"=" + str(near).encode() + b"\n")
+    goods = GOOD.replace(b"brake=V", b"brake=M")
+    yield goods
+    yield goods.replace(b"train=V", b"train=M")
+    yield goods.replace(b"kr=100", b"kr=151")
+    yield goods + b"x"
+
+
+def sheet_texts():
+    for text in texts():
+        assert 1 not in text
+        sys.stdout.buffer.write(text + b"\x01")
+
+
+def sheet_answers():
+    for text in texts():
+        answer = read_text(text)
+        print("sheet" if answer is None else "answer={} byte={} layer={}".format(*answer))
+
+
+{"distances": distances, "model_cases": model_cases, "sheet_texts": sheet_texts, "sheet_answers": sheet_answers}[sys.argv[1]]()

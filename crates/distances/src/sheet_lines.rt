@@ -1,62 +1,31 @@
-use sheet::LengthChoice;
-use sheet::Model;
-use sheet::Regime;
-use sheet::Service;
-use sheet::Values;
+use sheet::Admitted;
+use sheet_text::SheetFault;
+use sheet_writer::write_sheet;
 use std::io;
+use std::io::Write;
 
-fn model_word(model: Model) -> &'static str {
-    match model {
-        Model::Scmt => "scmt",
-        Model::Etcs => "etcs",
+// The room that the text of any sheet fits in.
+const ROOM: usize = 128;
+
+// The text of the sheet.
+pub(crate) fn show_sheet(rt: &LibcRuntime, sheet: &Admitted) -> io::Result<()> {
+    let mut memory = [0u8; ROOM];
+    match write_sheet(sheet, &mut memory) {
+        Ok(end) => {
+            let end = end.min(ROOM);
+            rt.stdout().write_all(&memory[0..end])
+        }
+        Err(refusal) => {
+            let number = refusal.number();
+            println!(rt, "answer={number}")
+        }
     }
 }
 
-fn regime_word(regime: Regime) -> &'static str {
-    match regime {
-        Regime::Operation => "E",
-        Regime::Trial => "P",
-    }
-}
-
-fn service_word(service: Service) -> &'static str {
-    match service {
-        Service::Passenger => "V",
-        Service::Goods => "M",
-    }
-}
-
-fn length_word(choice: LengthChoice) -> &'static str {
-    match choice {
-        LengthChoice::Fixed => "LD",
-        LengthChoice::Train => "LT",
-    }
-}
-
-// The sheet as twelve lines.
-pub(crate) fn show_sheet(rt: &LibcRuntime, values: &Values) -> io::Result<()> {
-    let model = model_word(values.model);
-    let regime = regime_word(values.regime);
-    let train = service_word(values.train);
-    let brake = service_word(values.brake);
-    let lfren = length_word(values.lfren);
-    let Values {
-        ep,
-        lambda,
-        length,
-        kr,
-        tw,
-        ti,
-        eps,
-        ..
-    } = *values;
-    println!(
-        rt,
-        "model={model}\nregime={regime}\ntrain={train}\nbrake={brake}"
-    )?;
-    println!(
-        rt,
-        "ep={ep}\nlambda={lambda}\nlength={length}\nlfren={lfren}"
-    )?;
-    println!(rt, "kr={kr}\ntw={tw}\nti={ti}\neps={eps}")
+// Why a text is not the text of a sheet.
+pub(crate) fn show_fault(rt: &LibcRuntime, fault: SheetFault) -> io::Result<()> {
+    let number = fault.number();
+    let byte = fault.byte();
+    let layer = fault.layer().word();
+    println!(rt, "answer={number} byte={byte} layer={layer}")
 }

@@ -28,7 +28,7 @@ pub(crate) fn show_steps(
     let speed = question.speed.tenths;
     let target = question.target.tenths;
     let grade = question.grade.thousandths;
-    println!(rt, "\nspeed={speed} target={target} grade={grade}")?;
+    println!(rt, "speed={speed} target={target} grade={grade}")?;
     match model.steps(question) {
         Err(refusal) => {
             let number = refusal.number();

@@ -25,7 +25,7 @@ pub const TARGETS: [u64; 3] = [0, 300, 1450];
 
 pub const GRADES: [i64; 8] = [-36, -35, -21, -20, 0, 1, 35, 36];
 
-pub const SHEETS: [Values; 8] = [
+pub const SHEETS: [Values; 10] = [
     Values {
         model: Model::Scmt,
         regime: Regime::Operation,
@@ -137,5 +137,33 @@ pub const SHEETS: [Values; 8] = [
         tw: 1,
         ti: 2,
         eps: 5,
+    },
+    Values {
+        model: Model::Scmt,
+        regime: Regime::Operation,
+        train: Service::Passenger,
+        brake: Service::Passenger,
+        ep: 0,
+        lambda: 45,
+        length: 400,
+        lfren: LengthChoice::Fixed,
+        kr: 30,
+        tw: 20,
+        ti: 30,
+        eps: 0,
+    },
+    Values {
+        model: Model::Etcs,
+        regime: Regime::Operation,
+        train: Service::Passenger,
+        brake: Service::Passenger,
+        ep: 0,
+        lambda: 100,
+        length: 400,
+        lfren: LengthChoice::Fixed,
+        kr: 57,
+        tw: 20,
+        ti: 30,
+        eps: 0,
     },
 ];

@@ -7,6 +7,7 @@ use cases::GRADES;
 use cases::SHEETS;
 use cases::SPEEDS;
 use cases::TARGETS;
+use figures::sheet_a;
 use models::SheetModel;
 use sheet::Draft;
 use sheet::Rejected;
@@ -90,7 +91,9 @@ fn show_speed(rt: &LibcRuntime, model: &SheetModel, number: usize, speed: u64) -
 }
 
 fn main(rt: LibcRuntime) -> io::Result<()> {
-    for (number, values) in SHEETS.iter().enumerate() {
+    let mut sheets = SHEETS;
+    sheets[0] = sheet_a();
+    for (number, values) in sheets.iter().enumerate() {
         match model_of(*values) {
             None => println!(rt, "{number} not admitted")?,
             Some(model) => {
