@@ -1,3 +1,5 @@
+#![tactic(auto)]
+
 mod reading;
 
 pub use reading::read_call;

@@ -1,3 +1,5 @@
+#![tactic(auto)]
+
 mod call_fault;
 mod call_line;
 mod due_fields;

@@ -1,3 +1,5 @@
+#![tactic(auto)]
+
 // Reads the first line of each of many texts, each ended by a byte 1, as a call, and prints what is answered to it and where the next line begins.
 use call_lines::read_call;
 use call_text::CallFault;

@@ -1,3 +1,5 @@
+#![tactic(auto)]
+
 mod answering;
 mod brake;
 mod brake_data;

@@ -1,3 +1,5 @@
+#![tactic(auto)]
+
 // The workshop table of a train sheet: the sheet is read from the standard input, printed back and admitted, then come the steps of one question and a row for each speed and grade.
 mod input;
 mod sheet_lines;

@@ -1,3 +1,5 @@
+#![tactic(auto)]
+
 mod cutting;
 mod due;
 mod fault_numbers;

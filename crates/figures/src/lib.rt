@@ -1,3 +1,5 @@
+#![tactic(auto)]
+
 ghost use Rattle.std.specs.Prelude.{◌≡◌};
 ghost use Rattle.figures.specs.Sheets.{sheet_a};
 ghost use Rattle.figures.specs.Stated.{Stated};

@@ -1,3 +1,5 @@
+#![tactic(auto)]
+
 ghost use Rattle.braking.specs.Laws.{Lawful};
 ghost use Rattle.histories.specs.Examples.{RuledOut, Worked, tenfold};
 

@@ -1,3 +1,5 @@
+#![tactic(auto)]
+
 ghost use Rattle.history.specs.Theorem.{EveryRunKeepsTheLines, EveryStepKeepsTheLines, EveryStretchHasOneGrade};
 
 // Whatever is called, the history of a mission over a lawful model keeps the three lines. Says nothing of its answer.

@@ -1,3 +1,5 @@
+#![tactic(auto)]
+
 mod journey;
 mod running;
 

@@ -1,3 +1,5 @@
+#![tactic(auto)]
+
 // Many questions to several maker's brakes, and numbers that make no brake, held to an independent calculation.
 mod cases;
 

@@ -1,3 +1,5 @@
+#![tactic(auto)]
+
 // A mission with a maker's own brake: a short approach to a target on a falling grade, call by call.
 mod driving;
 mod lines;

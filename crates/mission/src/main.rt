@@ -1,3 +1,5 @@
+#![tactic(auto)]
+
 // Runs a mission: the standard input holds a train sheet of twelve lines and then call lines; each call line is answered in its turn.
 mod input;
 mod showing;

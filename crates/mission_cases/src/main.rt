@@ -1,3 +1,5 @@
+#![tactic(auto)]
+
 // Runs many missions, whose texts stand with a line `next` between them, call by call, and prints what each line is answered.
 mod showing;
 

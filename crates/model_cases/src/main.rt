@@ -1,3 +1,5 @@
+#![tactic(auto)]
+
 // Every step of many questions on several sheets, held to an independent calculation.
 mod cases;
 

@@ -1,3 +1,5 @@
+#![tactic(auto)]
+
 mod deceleration;
 mod etcs;
 mod etcs_answers;

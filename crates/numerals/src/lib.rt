@@ -1,3 +1,5 @@
+#![tactic(auto)]
+
 mod digit;
 mod reading;
 mod width;

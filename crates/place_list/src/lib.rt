@@ -1,3 +1,5 @@
+#![tactic(auto)]
+
 mod keyed;
 mod list;
 mod placed;

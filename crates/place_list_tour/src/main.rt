@@ -1,3 +1,5 @@
+#![tactic(auto)]
+
 mod board;
 mod lamp;
 mod tour;

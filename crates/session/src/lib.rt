@@ -1,3 +1,5 @@
+#![tactic(auto)]
+
 mod lines;
 mod merging;
 mod sheet_lines;

@@ -1,3 +1,5 @@
+#![tactic(auto)]
+
 mod admitted;
 mod admitting;
 mod draft;

@@ -1,3 +1,5 @@
+#![tactic(auto)]
+
 // Drafts with values at their limits and one beyond, and what admitting answers to each.
 #[cfg(test)]
 mod tests {

@@ -1,3 +1,5 @@
+#![tactic(auto)]
+
 mod admitting;
 mod entry;
 mod fault_numbers;

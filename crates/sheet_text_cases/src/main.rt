@@ -1,3 +1,5 @@
+#![tactic(auto)]
+
 // Reads many texts, each ended by a byte 1, as train sheets, and prints what is answered to each.
 use sheet::Draft;
 use sheet_text::read_sheet;

@@ -1,3 +1,5 @@
+#![tactic(auto)]
+
 mod slopes;
 mod steps;
 mod stop;

@@ -1,3 +1,5 @@
+#![tactic(auto)]
+
 mod limits;
 mod lists;
 mod mission;

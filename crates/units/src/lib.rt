@@ -1,3 +1,5 @@
+#![tactic(auto)]
+
 mod divisor;
 mod quantities;
 mod rounding;

@@ -1,3 +1,5 @@
+#![tactic(auto)]
+
 mod announced;
 mod limits;
 mod sampling;
