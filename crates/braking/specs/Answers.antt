@@ -1,9 +1,8 @@
 -- What a question is answered: the refusals in their order, else the verdict of the model's meaning.
-use Rattle.std.specs.Prelude.{◌≡◌, ℕ, ◌<◌, ◌≤◌, ◌⊎◌, ℤ, pos, negsuc, ◌≤ℤ◌, ◌<ℤ◌, Ok, Err, Result}
+use Rattle.std.specs.Prelude.{◌≡◌, ℕ, ◌<◌, ◌≤◌, ◌⊎◌, pos, negsuc, ◌<ℤ◌, Ok, Err, Result}
 use Rattle.braking.specs.Meaning.{Meaning, Question, Verdict, Asked, Binds, weak, strong}
 use Rattle.braking.specs.declared.question.Question.{Question as QuestionStruct}
 use Rattle.braking.specs.declared.approach.Approach.{Approach}
-use Rattle.braking.specs.declared.distances.Distances.{Distances}
 use Rattle.braking.specs.declared.answer.Answer.{Answer}
 use Rattle.braking.specs.declared.answer.Answer.TheVariants.{Weak, Strong}
 use Rattle.braking.specs.declared.refusal.Refusal.{Refusal}

@@ -1,7 +1,7 @@
 -- The laws that every braking model owes.
-use Rattle.std.specs.Prelude.{◌≡◌, ℕ, ◌*◌, ◌≤◌, ℤ, pos, ◌≤ℤ◌, ◌<ℤ◌}
+use Rattle.std.specs.Prelude.{◌≡◌, ℕ, ◌*◌, ◌≤◌, pos, ◌≤ℤ◌, ◌<ℤ◌}
 use Rattle.units.specs.Fractions.{Fraction, whole, ◌≼◌, ◌⊕◌, ◌⊗◌}
-use Rattle.braking.specs.Meaning.{Meaning, Question, Verdict, Three, Asked, Binds, weak, strong}
+use Rattle.braking.specs.Meaning.{Meaning, Question, Verdict, Asked, Binds, weak, strong}
 
 -- c mm are at least the exact distance e, and at most the sum of e, the slack and a fifty-thousandth of c.
 pub record Within (slack e : Fraction) (c : ℕ) : Type 0 where

@@ -1,7 +1,7 @@
 -- The ranges of an admissible sheet, as inequalities.
-use Rattle.std.proofs.Common.{◌≡◌, ℕ, ◌%◌, ◌≤◌, true, eqb, leb}
+use Rattle.std.proofs.Common.{◌≡◌, ◌%◌, ◌≤◌, true, leb}
 use Rattle.std.proofs.lemmas.Bool.{and_parts, leb-true, eqb-true}
-use Rattle.sheet.specs.declared.number_key.NumberKey.TheVariants.{Ep, Lambda, Length, Kr, Tw, Ti, Eps}
+use Rattle.sheet.specs.declared.number_key.NumberKey.TheVariants.{Ep, Lambda, Length, Kr, Tw, Ti}
 use Rattle.sheet.specs.declared.values.Values.{Values}
 use Rattle.sheet.specs.Ranges.{in_range, in_ranges, brake_allowed, admissible}
 

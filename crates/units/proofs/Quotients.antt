@@ -1,7 +1,7 @@
 -- Rounding a quotient up and down does what it is named for.
 use mathlib.Core.Path.{◌≡◌}
 use mathlib.Core.Logic.{inl, inr}
-use Prim.Native.Nat.{ℕ, suc, ◌+◌, ◌*◌, ◌/◌, ◌%◌, min, ◌<◌, ◌≤◌}
+use Prim.Native.Nat.{ℕ, suc, ◌+◌, ◌/◌, ◌%◌, min, ◌<◌, ◌≤◌}
 use native.Mathlib.Nat.{eq-zero-or-pos, div-add-mod', mod-lt, div-le_self, lt_of_mul-lt-mul_right}
 use native.Mathlib.Omega.{arith}
 use Rattle.units.specs.Rounding.{ceiling, RoundedUp, RoundedDown}

@@ -1,5 +1,5 @@
 -- Exact values: fractions, compared and held equal by their cross products.
-use Rattle.std.specs.Prelude.{◌≡◌, ℕ, ◌+◌, ◌-◌, ◌*◌, max, ◌<◌, ◌≤◌, ℤ, pos, ◌+ℤ◌, ◌*ℤ◌, ◌<ℤ◌, ◌≤ℤ◌}
+use Rattle.std.specs.Prelude.{◌≡◌, ℕ, ◌+◌, ◌-◌, ◌*◌, max, ◌<◌, ◌≤◌, ℤ}
 use Rattle.std.proofs.Common.{mul-pos, arith, lit<}
 
 infixl 65 ◌⊕◌ ◌⊖◌

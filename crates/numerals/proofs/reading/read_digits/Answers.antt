@@ -32,7 +32,7 @@ loop-byte-preserved c =
     let i = c.loop-byte.byte-index in
     let is = c.in-Some.ensures in (
       more bytes i c.loop-byte-test.true is.0 c.loop-byte.invariant.0,
-      omega (arith, c.with-digit-number.ensures, is.1, c.loop-byte.invariant.1, digit (get_or bytes i 0) is.0, digits_value_more 10 bytes i c.loop-byte-test.true),
+      omega (arith, c.with_digit-number.ensures, is.1, c.loop-byte.invariant.1, digit (get_or bytes i 0) is.0, digits_value_more 10 bytes i c.loop-byte-test.true),
     )
 
 pub returns : goal.returns

@@ -7,11 +7,11 @@ pub returns : goal.returns
 returns c =
     let most = c.args.most in
     let bytes = c.args.bytes.now in
-    let r = c.read-plain.result in
+    let r = c.read_plain.result in
     record {
-      read = read_from_plain most bytes r c.read-plain.ensures;
-      digits = c.read-plain.ensures;
-      small = small_from_plain most bytes r c.read-plain.ensures;
+      read = read_from_plain most bytes r c.read_plain.ensures;
+      digits = c.read_plain.ensures;
+      small = small_from_plain most bytes r c.read_plain.ensures;
       there = there;
       back = back;
     }

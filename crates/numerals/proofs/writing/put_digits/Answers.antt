@@ -68,8 +68,8 @@ loop-place-preserved c =
       omega arith,
       omega arith,
       s.0,
-      ap (λ (x : List ℕ). set x (place - 1) c.last-digit.result) inv.4
-          ∙ put place (place - 1) (place - at) (place - 1 - at) c.last-digit.result ds (drop end old) old (omega arith) (omega arith) (omega arith) (omega (arith, c.requires.fits)) (s.1 ∙ sym c.last-digit.ensures),
+      ap (λ (x : List ℕ). set x (place - 1) c.last_digit.result) inv.4
+          ∙ put place (place - 1) (place - at) (place - 1 - at) c.last_digit.result ds (drop end old) old (omega arith) (omega arith) (omega arith) (omega (arith, c.requires.fits)) (s.1 ∙ sym c.last_digit.ensures),
     )
 
 pub returns : goal.returns

@@ -6,6 +6,6 @@ use Rattle.units.proofs.rounding.quotient_up.Goals as goal
 
 pub returns : goal.returns
 returns c = record {
-  value = c.ceiling-of.ensures;
-  meaning = subst (λ (r : ℕ). RoundedUp c.args.over c.args.under.value r) (sym c.ceiling-of.ensures) (rounded_up c.args.over c.args.under.value c.args.under.above);
+  value = c.ceiling_of.ensures;
+  meaning = subst (λ (r : ℕ). RoundedUp c.args.over c.args.under.value r) (sym c.ceiling_of.ensures) (rounded_up c.args.over c.args.under.value c.args.under.above);
 }
