@@ -17,8 +17,8 @@ digit byte h = grind (arith, nat_tests)
 more : (bytes : List ℕ) (i : ℕ) → i < length bytes → IsDigit (get_or bytes i 0) → AllDigits (take i bytes) → AllDigits (take (i + 1) bytes)
 more bytes i h is all = own.from (take (i + 1) bytes) (digits_more 10 bytes i h (own.to (take i bytes) all) (omega (arith, digit (get_or bytes i 0) is)))
 
-pub with-digit-number-requires : goal.with-digit-number-requires
-with-digit-number-requires c =
+pub with_digit-number-requires : goal.with_digit-number-requires
+with_digit-number-requires c =
     let bytes = c.args.bytes.now in
     let i = c.loop-byte.byte-index in
     record {

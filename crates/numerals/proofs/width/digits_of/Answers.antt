@@ -8,8 +8,8 @@ use Rattle.numerals.proofs.width.digits_of.Goals as goal
 few : (n : ℕ) → n < 2 ^ 64 → length (decimal n) ≤ 20
 few n h = length-decimal-le 20 n (omega arith) (omega arith) h
 
-pub overflow-add-count : goal.overflow-add-count
-overflow-add-count c = omega (arith, c.loop-left.invariant.1, few c.args.number (omega arith))
+pub overflow_add-count : goal.overflow_add-count
+overflow_add-count c = omega (arith, c.loop-left.invariant.1, few c.args.number (omega arith))
 
 pub loop-left-preserved : goal.loop-left-preserved
 loop-left-preserved c =
