@@ -1,5 +1,5 @@
 -- The value behind a key, as a part of the text; and parts that reach past the end.
-use Rattle.std.proofs.Common.{◌≡◌, ℕ, ◌+◌, ◌-◌, ◌<◌, ◌≤◌, min, List, ◌∷◌, ◌++◌, length, take, drop, sym, ap, ◌∙◌, ⊎_elim, arith, length-drop, length-take}
+use Rattle.std.proofs.Common.{◌≡◌, ℕ, ◌+◌, ◌-◌, ◌≤◌, min, List, ◌∷◌, length, take, drop, sym, ap, ◌∙◌, ⊎_elim, arith, length-drop, length-take}
 use lib.Seq.{drop-append-add}
 use Rattle.std.specs.List.{between}
 use Rattle.std.proofs.lemmas.List.{drop-drop, drop-take, length-append, take_all}

@@ -1,6 +1,5 @@
 -- The number and the byte of each fault of the text.
 use Rattle.std.specs.Prelude.{ℕ}
-use Rattle.fields.specs.declared.faults.TextFault.{TextFault}
 use Rattle.fields.specs.declared.faults.TextFault.TheVariants.{NoLineFeed}
 use Rattle.fields.specs.declared.faults.ValueFault.{ValueFault}
 use Rattle.fields.specs.declared.faults.ValueFault.TheVariants.{Text, OtherKey, BadValue}

@@ -1,4 +1,4 @@
-use Rattle.std.proofs.Common.{◌≡◌, ℕ, ◌+◌, ◌-◌, ◌<◌, ◌≤◌, min, List, [], ◌∷◌, ◌++◌, length, get_or, take, drop, sym, refl, ap, ◌∙◌, subst, arith, length-drop, get_or-drop, get_or-take}
+use Rattle.std.proofs.Common.{◌≡◌, ℕ, ◌+◌, ◌-◌, ◌<◌, List, ◌∷◌, ◌++◌, length, get_or, take, drop, sym, refl, ap, ◌∙◌, arith, length-drop, get_or-drop, get_or-take}
 use Rattle.std.proofs.lemmas.List.{take-append-drop, drop_more, length-take-le}
 use Rattle.fields.proofs.cutting.cut.Goals as goal
 
@@ -14,15 +14,15 @@ returns c =
     let at = c.args.at in
     (refl, λ k w l e. c.loop-i.invariant (at + k) (omega arith) (omega (arith, c.loop-i-test.false, c.reach.ensures, length-drop at text)) (sym (get_or-drop at text k 0) ∙ e))
 
-pub returns-then-is-feed : goal.returns-then-is-feed
-returns-then-is-feed c =
+pub returns-then-is_feed : goal.returns-then-is_feed
+returns-then-is_feed c =
     let text = c.args.text.now in
     let at = c.args.at in
     let n : ℕ = c.loop-i.i - at in
     let here : at + n ≡ c.loop-i.i = omega (arith, c.loop-i.auto.i) in
     let long = length-drop at text in
     let before : n < length (drop at text) = omega (arith, c.loop-i-test.true, c.reach.ensures, long) in
-    let sign : get_or (drop at text) n 0 ≡ 10 = get_or-drop at text n 0 ∙ (ap (λ (k : ℕ). get_or text k 0) here ∙ c.is-feed.ensures.0 c.if-is-feed.true) in
+    let sign : get_or (drop at text) n 0 ≡ 10 = get_or-drop at text n 0 ∙ (ap (λ (k : ℕ). get_or text k 0) here ∙ c.is_feed.ensures.0 c.if-is_feed.true) in
     let size : length (take n (drop at text)) ≡ n = length-take-le n (drop at text) (omega arith) in (
       refl,
       c.loop-i.auto.i,

@@ -32,6 +32,6 @@ returns c =
     let key = c.args.key.now in
     let same : (k : ℕ) → k < length key → get_or line k 0 ≡ get_or key k 0 = λ k h. c.loop-i.invariant k (omega (arith, c.loop-i-test.false)) in
     record {
-      holds = λ e. keyed key line (omega (arith, c.if-line-key.false)) same (c.is-equals.ensures.0 e);
-      only = λ value e. c.is-equals.ensures.1 (ap (λ (t : List ℕ). get_or t (length key) 0) e ∙ get_or_at key 61 value 0 (length key) refl);
+      holds = λ e. keyed key line (omega (arith, c.if-line-key.false)) same (c.is_equals.ensures.0 e);
+      only = λ value e. c.is_equals.ensures.1 (ap (λ (t : List ℕ). get_or t (length key) 0) e ∙ get_or_at key 61 value 0 (length key) refl);
     }
