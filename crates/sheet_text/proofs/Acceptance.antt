@@ -1,5 +1,5 @@
 -- A text is taken exactly where it is the text of a sheet that can be admitted, and of one sheet only.
-use Rattle.std.proofs.Common.{◌≡◌, ℕ, ◌+◌, ◌<◌, ◌≤◌, true, false, List, [], ◌∷◌, ◌++◌, map, length, get_or, drop, Ok, Err, decimal, Result, sym, refl, ap, ◌∙◌, subst, append_assoc, append-nil, arith}
+use Rattle.std.proofs.Common.{◌≡◌, ℕ, ◌<◌, true, false, List, [], ◌∷◌, ◌++◌, map, length, get_or, drop, Ok, Err, Result, sym, refl, ap, ◌∙◌, subst, append_assoc, append-nil, arith}
 use mathlib.Core.List.{append_cancel_left}
 use Rattle.std.specs.List.{AllByRecursion as All}
 use Rattle.std.proofs.lemmas.Fmt.{decimal_injective as same-from-decimal}
@@ -8,7 +8,6 @@ use Rattle.std.proofs.lemmas.Bool.{and_parts}
 use Rattle.fields.specs.Keys.{Keyed}
 use Rattle.fields.specs.Lines.{Begins}
 use Rattle.fields.specs.declared.faults.ValueFault.TheVariants.{Text, OtherKey, BadValue}
-use Rattle.numerals.specs.Numerals.{Writes}
 use Rattle.sheet.specs.Ranges.{in_range, in_ranges, brake_allowed}
 use Rattle.sheet.specs.declared.words.Model.{Model}
 use Rattle.sheet.specs.declared.words.Model.TheVariants.{Scmt, Etcs}
@@ -18,20 +17,19 @@ use Rattle.sheet.specs.declared.words.Service.{Service}
 use Rattle.sheet.specs.declared.words.Service.TheVariants.{Passenger, Goods}
 use Rattle.sheet.specs.declared.words.LengthChoice.{LengthChoice}
 use Rattle.sheet.specs.declared.words.LengthChoice.TheVariants.{Fixed, Train as TrainLength}
-use Rattle.sheet.specs.declared.number_key.NumberKey.TheVariants.{Ep, Lambda, Length, Kr, Tw, Ti, Eps}
+use Rattle.sheet.specs.declared.number_key.NumberKey.TheVariants.{Ep, Lambda, Length, Kr, Tw, Ti}
 use Rattle.sheet.specs.declared.values.Values.{Values}
 use Rattle.sheet.specs.declared.draft.Draft.{Draft}
-use Rattle.sheet_text.specs.Entries.{key_of, name_of, value_text, line_text, lines, entries_of, keys, written, model_word, regime_word, service_word, length_word}
+use Rattle.sheet_text.specs.Entries.{key_of, name_of, value_text, line_text, lines, entries_of, written, model_word, regime_word, service_word, length_word}
 use Rattle.sheet_text.specs.Reading.{Ranged, Valued, LineFault}
-use Rattle.sheet_text.specs.Sheets.{puts, blank, Stops, Fronts, IsText, SheetAnswers, FaultDue, Taken, OneSheet}
+use Rattle.sheet_text.specs.Sheets.{puts, blank, Stops, IsText, SheetAnswers, Taken, OneSheet}
 use Rattle.sheet_text.specs.declared.entry.Entry.{Entry}
 use Rattle.sheet_text.specs.declared.entry.Entry.TheVariants.{Model as OfModel, Regime as OfRegime, Train as OfTrain, Brake as OfBrake, Lfren as OfLfren, Number as OfNumber}
 use Rattle.sheet_text.specs.declared.faults.SheetFault.{SheetFault}
 use Rattle.sheet_text.specs.declared.faults.SheetFault.TheVariants.{Value, OutOfRange, LeftOver, GoodsBrake}
 use Rattle.sheet_text.specs.declared.key.Key.{Key}
-use Rattle.sheet_text.specs.declared.key.Key.TheVariants.{Word, Number}
 use Rattle.sheet_text.proofs.Completeness.{ValuedBy, entry, of_key, none_left}
-use Rattle.sheet_text.proofs.FeedFree.{Free, split_same, small, core, core_free, core_short, line_is, value_short}
+use Rattle.sheet_text.proofs.FeedFree.{split_same, small, core, core_free, core_short, line_is, value_short}
 
 same_model : (x y : Model) → model_word x ≡ model_word y → x ≡ y
 same_model Scmt Scmt e = refl

@@ -1,13 +1,12 @@
 -- Twelve entries with the twelve keys are the entries of a sheet.
-use Rattle.std.proofs.Common.{◌≡◌, ℕ, true, List, [], ◌∷◌, map, sym, refl, ap, ◌∙◌, subst, arith}
+use Rattle.std.proofs.Common.{◌≡◌, ℕ, true, List, [], ◌∷◌, map, refl, ap, ◌∙◌, subst, arith}
 use Rattle.std.specs.List.{AllByRecursion as All}
 use Rattle.std.proofs.lemmas.Bool.{and_from}
-use Rattle.sheet.specs.Ranges.{in_range, in_ranges}
+use Rattle.sheet.specs.Ranges.{in_ranges}
 use Rattle.sheet.specs.declared.words.Model.{Model}
 use Rattle.sheet.specs.declared.words.Regime.{Regime}
 use Rattle.sheet.specs.declared.words.Service.{Service}
 use Rattle.sheet.specs.declared.words.LengthChoice.{LengthChoice}
-use Rattle.sheet.specs.declared.number_key.NumberKey.{NumberKey}
 use Rattle.sheet.specs.declared.number_key.NumberKey.TheVariants.{Ep, Lambda, Length, Kr, Tw, Ti, Eps}
 use Rattle.sheet.specs.declared.values.Values.{Values}
 use Rattle.sheet_text.specs.Entries.{key_of, keys, entries_of}
@@ -16,7 +15,6 @@ use Rattle.sheet_text.specs.declared.entry.Entry.{Entry}
 use Rattle.sheet_text.specs.declared.entry.Entry.TheVariants.{Model as OfModel, Regime as OfRegime, Train as OfTrain, Brake as OfBrake, Lfren as OfLfren, Number as OfNumber}
 use Rattle.sheet_text.specs.declared.key.Key.{Key}
 use Rattle.sheet_text.specs.declared.key.Key.TheVariants.{Word, Number}
-use Rattle.sheet_text.specs.declared.key.WordKey.{WordKey}
 use Rattle.sheet_text.specs.declared.key.WordKey.TheVariants.{Model as ModelKey, Regime as RegimeKey, Train as TrainKey, Brake as BrakeKey, Lfren as LfrenKey}
 
 -- the value type of a key

@@ -1,5 +1,5 @@
 -- Numbers of at most four digits: their size, their text, their range.
-use Rattle.std.proofs.Common.{◌≡◌, ℕ, ◌^◌, ◌<◌, true, false, List, decimal, sym, ◌∙◌, subst, arith}
+use Rattle.std.proofs.Common.{◌≡◌, ℕ, ◌<◌, true, false, List, decimal, sym, ◌∙◌, subst, arith}
 use Rattle.std.proofs.lemmas.Str.Parse.{digits_value_short}
 use Rattle.sheet.specs.Ranges.{in_range}
 use Rattle.sheet.specs.declared.number_key.NumberKey.{NumberKey}

@@ -8,12 +8,10 @@ use Rattle.sheet.specs.declared.words.Service.{Service}
 use Rattle.sheet.specs.declared.words.Service.TheVariants.{Passenger, Goods}
 use Rattle.sheet.specs.declared.words.LengthChoice.{LengthChoice}
 use Rattle.sheet.specs.declared.words.LengthChoice.TheVariants.{Fixed, Train as TrainLength}
-use Rattle.sheet.specs.declared.number_key.NumberKey.{NumberKey}
 use Rattle.sheet.specs.declared.number_key.NumberKey.TheVariants.{Ep, Lambda, Length, Kr, Tw, Ti, Eps}
 use Rattle.sheet.specs.declared.values.Values.{Values}
 use Rattle.fields.specs.Keys.{equals}
 use Rattle.fields.specs.Lines.{feed}
-use Rattle.sheet_text.specs.declared.key.WordKey.{WordKey}
 use Rattle.sheet_text.specs.declared.key.WordKey.TheVariants.{Model as ModelKey, Regime as RegimeKey, Train as TrainKey, Brake as BrakeKey, Lfren as LfrenKey}
 use Rattle.sheet_text.specs.declared.key.Key.{Key}
 use Rattle.sheet_text.specs.declared.key.Key.TheVariants.{Word, Number}

@@ -1,6 +1,5 @@
 -- What reading a sheet answers: the sheet whose text it is, or the first question with a no.
 use Rattle.std.specs.Prelude.{◌≡◌, ℕ, ◌≤◌, true, false, List, [], ◌∷◌, ◌++◌, map, length, drop, Ok, Err, Result, ◌≢◌}
-use Rattle.fields.specs.declared.faults.ValueFault.{ValueFault}
 use Rattle.sheet.specs.Ranges.{in_ranges, brake_allowed}
 use Rattle.sheet.specs.declared.words.Model.TheVariants.{Scmt}
 use Rattle.sheet.specs.declared.words.Regime.TheVariants.{Operation}

@@ -3,7 +3,7 @@ use Rattle.sheet_text.proofs.reading.read_sheet.Goals as goal
 
 pub returns : goal.returns
 returns c = record {
-  answers = c.read-draft.ensures;
-  exactly = taken c.args.text.now c.read-draft.result c.read-draft.ensures;
+  answers = c.read_draft.ensures;
+  exactly = taken c.args.text.now c.read_draft.result c.read_draft.ensures;
   only = one_sheet c.args.text.now;
 }

@@ -2,5 +2,5 @@ use Rattle.std.proofs.Common.{arith}
 use Rattle.sheet_text.proofs.ShortNumbers.{below_ten_thousand}
 use Rattle.sheet_text.proofs.values.read_short.Goals as goal
 
-pub overflow-cast-result : goal.overflow-cast-result
-overflow-cast-result c = omega (arith, below_ten_thousand c.in-ok-number.number c.args.digits.now c.in-ok-number.ensures)
+pub overflow_cast-result : goal.overflow_cast-result
+overflow_cast-result c = omega (arith, below_ten_thousand c.in_ok-number.number c.args.digits.now c.in_ok-number.ensures)
