@@ -6,16 +6,16 @@ use Rattle.sheet_writer.proofs.Joining.{join}
 use Rattle.sheet_writer.proofs.Lengths.{line_length}
 use Rattle.sheet_writer.proofs.lines.write_line.Goals as goal
 
-pub write-value-value-end-requires : goal.write-value-value-end-requires
-write-value-value-end-requires c = omega (arith, line_length c.args.entry, ap length (c.name.ensures ∙ ap name_of c.key-of.ensures))
+pub write_value-value_end-requires : goal.write_value-value_end-requires
+write_value-value_end-requires c = omega (arith, line_length c.args.entry, ap length (c.name.ensures ∙ ap name_of c.key_of.ensures))
 
-pub write-feed-requires : goal.write-feed-requires
-write-feed-requires c = omega (arith, line_length c.args.entry, ap length (c.name.ensures ∙ ap name_of c.key-of.ensures))
+pub write_feed-requires : goal.write_feed-requires
+write_feed-requires c = omega (arith, line_length c.args.entry, ap length (c.name.ensures ∙ ap name_of c.key_of.ensures))
 
 pub returns : goal.returns
 returns c =
     let name = subst
-    (λ (text : List ℕ). Put c.args.out.now c.args.at text c.write-bytes-name-end.new.out c.write-bytes-name-end.result)
-    (c.name.ensures ∙ ap name_of c.key-of.ensures)
-    c.write-bytes-name-end.ensures in
-    join name (join c.write-equals-value-start.ensures (join c.write-value-value-end.ensures c.write-feed.ensures))
+    (λ (text : List ℕ). Put c.args.out.now c.args.at text c.write_bytes-name_end.new.out c.write_bytes-name_end.result)
+    (c.name.ensures ∙ ap name_of c.key_of.ensures)
+    c.write_bytes-name_end.ensures in
+    join name (join c.write_equals-value_start.ensures (join c.write_value-value_end.ensures c.write_feed.ensures))

@@ -8,15 +8,15 @@ use Rattle.sheet_writer.proofs.Joining.{join}
 use Rattle.sheet_writer.proofs.Taking.{lines_more, room_more}
 use Rattle.sheet_writer.proofs.lines.write_lines.Goals as goal
 
-pub write-line-at-requires : goal.write-line-at-requires
-write-line-at-requires c = room_more c.args.entries.now c.loop-entry.entry-index _ c.loop-entry-test.true c.requires c.loop-entry.invariant
+pub write_line-at-requires : goal.write_line-at-requires
+write_line-at-requires c = room_more c.args.entries.now c.loop-entry.entry-index _ c.loop-entry-test.true c.requires c.loop-entry.invariant
 
 pub loop-entry-preserved : goal.loop-entry-preserved
 loop-entry-preserved c =
     subst
-    (λ (text : List ℕ). Put c.args.out.now 0 text c.write-line-at.new.out c.write-line-at.result)
+    (λ (text : List ℕ). Put c.args.out.now 0 text c.write_line-at.new.out c.write_line-at.result)
     (sym (lines_more c.args.entries.now c.loop-entry.entry-index _ c.loop-entry-test.true))
-    (join c.loop-entry.invariant c.write-line-at.ensures)
+    (join c.loop-entry.invariant c.write_line-at.ensures)
 
 pub returns : goal.returns
 returns c =

@@ -6,17 +6,17 @@ use Rattle.sheet_writer.specs.Steps.{Put}
 use Rattle.sheet_writer.proofs.Lengths.{text_short}
 use Rattle.sheet_writer.proofs.writing.write_values.Goals as goal
 
-pub write-lines-requires : goal.write-lines-requires
-write-lines-requires c =
+pub write_lines-requires : goal.write_lines-requires
+write_lines-requires c =
     omega (arith, ap (λ (es : List Entry). length (lines es)) c.entries_of.ensures, text_short c.args.values.now c.requires.fine, c.requires.asked)
 
 pub returns : goal.returns
 unfolding written
 returns c =
     let put = subst
-    (λ (es : List Entry). Put c.args.out.now 0 (lines es) c.write-lines.new.out c.write-lines.result)
+    (λ (es : List Entry). Put c.args.out.now 0 (lines es) c.write_lines.new.out c.write_lines.result)
     c.entries_of.ensures
-    c.write-lines.ensures in
+    c.write_lines.ensures in
     record {
       asked = c.requires.asked;
       ends = omega (arith, put.ends);
