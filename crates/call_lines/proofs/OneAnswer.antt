@@ -9,7 +9,7 @@ use Rattle.fields.specs.declared.faults.TextFault.{TextFault}
 use Rattle.fields.specs.declared.faults.TextFault.TheVariants.{NoLineFeed}
 use Rattle.fields.specs.declared.faults.ValueFault.TheVariants.{Text, OtherKey, BadValue}
 use Rattle.call_text.specs.CallTexts.{due_of, word_of, keys_of, field, written_call}
-use Rattle.call_text.specs.LineFields.{Holds, OtherKey, Stands, FieldFault, Stops, StopsIn, LineFault}
+use Rattle.call_text.specs.LineFields.{Holds, HasOtherKey, Stands, FieldFault, Stops, StopsIn, LineFault}
 use Rattle.call_text.specs.Lines.{Answers, OneAnswer, IsFaulty, IsEndless}
 use Rattle.call_text.specs.declared.call_fault.CallFault.{CallFault}
 use Rattle.call_text.specs.declared.call_fault.CallFault.TheVariants.{Field, UnknownCall, NumberTooLarge, LeftOver}
@@ -30,7 +30,7 @@ module _ (k : Key) (line : List ℕ) (at : ℕ) where
       let same = same_field k v w (drop m line) (drop n line) a.whole b.whole a.parted b.parted (sym a.text ∙ b.text) in
       (same.0, same_byte line m n a.within b.within same.1)
 
-  key_there : (v : List ℕ) (m : ℕ) → Holds k line at v m → OtherKey k line at → ⊥
+  key_there : (v : List ℕ) (m : ℕ) → Holds k line at v m → HasOtherKey k line at → ⊥
   key_there v m a none = none (v ++ drop m line) a.text
 
   same_fault : (f g : CallFault) → FieldFault k line at f → FieldFault k line at g → f ≡ g

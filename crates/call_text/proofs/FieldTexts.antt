@@ -13,7 +13,7 @@ use Rattle.fields.specs.declared.span.Span.{Span}
 use Rattle.fields.specs.declared.faults.ValueFault.{ValueFault}
 use Rattle.fields.specs.declared.faults.ValueFault.TheVariants.{Text, OtherKey, BadValue}
 use Rattle.call_text.specs.CallTexts.{lead_of, due_of, Parted}
-use Rattle.call_text.specs.LineFields.{EndsBehind, Holds, OtherKey, SpanAnswers}
+use Rattle.call_text.specs.LineFields.{EndsBehind, Holds, HasOtherKey, SpanAnswers}
 use Rattle.call_text.specs.declared.key.AmountKey.TheVariants.{Place, Point, Distance, Speed}
 use Rattle.call_text.specs.declared.key.Key.{Key}
 use Rattle.call_text.specs.declared.key.Key.TheVariants.{Call as CallKey, Number, Grade, Amount}
@@ -93,7 +93,7 @@ module _ (k : Key) (line : List ℕ) (at end : ℕ) (e : EndsBehind line at end)
         within = e.within;
       }
 
-  pub other : ((value : List ℕ) → Keyed (lead_of k) (between at end line) value → ⊥) → OtherKey k line at
+  pub other : ((value : List ℕ) → Keyed (lead_of k) (between at end line) value → ⊥) → HasOtherKey k line at
   other none behind is = ⊎_elim short long (cases_lt (end - at) (length (lead_of k) + 1))
     where
       whole : length line - at ≡ length (lead_of k) + 1 + length behind

@@ -32,8 +32,8 @@ pub record Holds (k : Key) (line : List ℕ) (at : ℕ) (value : List ℕ) (next
   pub within : next ≤ length line
 
 -- The line does not go on with the key and an equals sign.
-abbrev pub OtherKey : Key → (line : List ℕ) (at : ℕ) → Type 0
-OtherKey k line at = (behind : List ℕ) → drop at line ≢ lead_of k ++ equals ∷ behind
+abbrev pub HasOtherKey : Key → (line : List ℕ) (at : ℕ) → Type 0
+HasOtherKey k line at = (behind : List ℕ) → drop at line ≢ lead_of k ++ equals ∷ behind
 
 -- The first byte of a key's value.
 abbrev pub value_byte : Key → (at : ℕ) → ℕ
@@ -42,7 +42,7 @@ value_byte k at = at + length (lead_of k) + 1
 abbrev pub SpanAnswers : Key → (line : List ℕ) (at : ℕ) → Result (Span × ℕ) ValueFault → Type 0
 SpanAnswers k line at (Ok r) = Holds k line at r.0.bytes.now r.1 × (r.0.byte ≡ value_byte k at) × Fits (due_of k) r.0.bytes.now
 SpanAnswers k line at (Err (Text t)) = ⊥
-SpanAnswers k line at (Err (OtherKey b)) = (b ≡ at) × OtherKey k line at
+SpanAnswers k line at (Err (OtherKey b)) = (b ≡ at) × HasOtherKey k line at
 SpanAnswers k line at (Err (BadValue b)) = (b ≡ value_byte k at) × ((value : List ℕ) × (next : ℕ) × Holds k line at value next × (Fits (due_of k) value → ⊥))
 
 -- From a byte of the line on stands the field of a key with a value that it may have.
@@ -55,7 +55,7 @@ pub record Stands (k : Key) (z : ℤ) (line : List ℕ) (at next : ℕ) : Type 0
 -- The field of a key that is due at a byte of the line has this fault, the first question with a no.
 abbrev pub FieldFault : Key → (line : List ℕ) (at : ℕ) → CallFault → Type 0
 FieldFault k line at (Field (Text t)) = ⊥
-FieldFault k line at (Field (OtherKey b)) = (b ≡ at) × OtherKey k line at
+FieldFault k line at (Field (OtherKey b)) = (b ≡ at) × HasOtherKey k line at
 FieldFault k line at (Field (BadValue b)) = (b ≡ value_byte k at) × ((value : List ℕ) × (next : ℕ) × Holds k line at value next × (Fits (due_of k) value → ⊥))
 FieldFault k line at UnknownCall = ⊥
 FieldFault k line at (NumberTooLarge b) =
