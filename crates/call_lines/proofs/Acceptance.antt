@@ -1,15 +1,13 @@
 -- A line is taken exactly where it is the text of a call; and what the line answers, the text answers.
-use Rattle.std.proofs.Common.{◌≡◌, ℕ, ◌+◌, ◌-◌, ◌<◌, ◌≤◌, List, [], ◌∷◌, ◌++◌, length, get_or, take, drop, ℤ, Ok, Err, decimal, Result, sym, refl, ap, ◌∙◌, subst, inl, inr, append_assoc, arith, length-append}
+use Rattle.std.proofs.Common.{◌≡◌, ℕ, ◌+◌, ◌<◌, ◌≤◌, List, [], ◌∷◌, ◌++◌, length, get_or, drop, ℤ, Ok, Err, decimal, Result, sym, refl, ap, ◌∙◌, subst, inl, inr, arith, length-append}
 use Rattle.std.specs.Fmt.{signed_decimal}
-use Rattle.std.specs.List.{between}
-use Rattle.std.proofs.lemmas.List.{drop_at, get_or_at, length-drop, length-take-le}
+use Rattle.std.proofs.lemmas.List.{get_or_at, length-drop}
 use Rattle.calls.specs.declared.call.Call.{Call}
 use Rattle.fields.specs.Fields.{Fits}
 use Rattle.fields.specs.Lines.{Begins}
 use Rattle.fields.specs.declared.faults.ValueFault.TheVariants.{Text, OtherKey, BadValue}
-use Rattle.fields.specs.declared.faults.TextFault.{TextFault}
 use Rattle.call_text.specs.CallTexts.{due_of, word_of, keys_of, kind_of, values_of, field, fields, call_before, written_call, Good, AllGood, Writable, OneCall, Parted}
-use Rattle.call_text.specs.LineFields.{FieldFault, Stops, StopsIn, LineFault, LineAnswers}
+use Rattle.call_text.specs.LineFields.{FieldFault, Stops, StopsIn, LineFault}
 use Rattle.call_text.specs.Lines.{Answers}
 use Rattle.call_text.specs.declared.call_fault.CallFault.{CallFault}
 use Rattle.call_text.specs.declared.call_fault.CallFault.TheVariants.{Field, UnknownCall, NumberTooLarge, LeftOver}

@@ -1,5 +1,5 @@
 -- A text has one answer at most: only one question is the first with a no.
-use Rattle.std.proofs.Common.{◌≡◌, ℕ, ◌+◌, ◌≤◌, ◌⊎◌, List, [], ◌∷◌, ◌++◌, length, get_or, drop, ℤ, Ok, Err, decimal, Result, sym, refl, ap, ◌∙◌, subst, inl, inr, arith, length-append}
+use Rattle.std.proofs.Common.{◌≡◌, ℕ, ◌≤◌, ◌⊎◌, List, [], ◌∷◌, ◌++◌, length, get_or, drop, ℤ, Ok, Err, decimal, Result, sym, refl, ap, ◌∙◌, subst, inl, inr, arith, length-append}
 use Rattle.std.specs.Fmt.{signed_decimal}
 use Rattle.std.proofs.lemmas.List.{get_or_at, length-drop}
 use Rattle.calls.specs.declared.call.Call.{Call}
@@ -8,7 +8,7 @@ use Rattle.fields.specs.Lines.{Begins, NoFeed}
 use Rattle.fields.specs.declared.faults.TextFault.{TextFault}
 use Rattle.fields.specs.declared.faults.TextFault.TheVariants.{NoLineFeed}
 use Rattle.fields.specs.declared.faults.ValueFault.TheVariants.{Text, OtherKey, BadValue}
-use Rattle.call_text.specs.CallTexts.{due_of, word_of, keys_of, field, written_call}
+use Rattle.call_text.specs.CallTexts.{due_of, word_of, keys_of, written_call}
 use Rattle.call_text.specs.LineFields.{Holds, HasOtherKey, Stands, FieldFault, Stops, StopsIn, LineFault}
 use Rattle.call_text.specs.Lines.{Answers, OneAnswer, IsFaulty, IsEndless}
 use Rattle.call_text.specs.declared.call_fault.CallFault.{CallFault}

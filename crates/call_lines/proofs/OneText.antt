@@ -1,17 +1,17 @@
 -- A call has one text: short, with no line feed before its end, and of no other call.
-use Rattle.std.proofs.Common.{◌≡◌, ℕ, ◌+◌, ◌<◌, ◌≤◌, cond, eqb, List, [], ◌∷◌, ◌++◌, length, get_or, ℤ, pos, sym, refl, ap, ◌∙◌, subst, append_assoc, arith, length-append}
+use Rattle.std.proofs.Common.{◌≡◌, ℕ, ◌+◌, ◌<◌, ◌≤◌, cond, eqb, List, [], ◌∷◌, ◌++◌, length, get_or, ℤ, pos, sym, refl, ap, ◌∙◌, subst, arith, length-append}
 use mathlib.Core.List.{append_cancel_left}
 use lib.Signed.{mag}
 use Rattle.std.specs.Fmt.{signed_decimal}
 use Rattle.calls.specs.declared.call.Call.{Call}
 use Rattle.calls.specs.declared.call.Call.TheVariants.{Slope, Announce, Withdraw, Sample, Release}
-use Rattle.call_text.specs.CallTexts.{lead_of, word_of, keys_of, kind_of, values_of, field, fields, call_before, written_call, Good, AllGood, Writable, OneCall, Parted}
+use Rattle.call_text.specs.CallTexts.{lead_of, word_of, keys_of, kind_of, values_of, field, fields, call_before, Good, AllGood, Writable, OneCall, Parted}
 use Rattle.call_text.specs.declared.key.AmountKey.TheVariants.{Place, Point, Distance, Speed}
 use Rattle.call_text.specs.declared.key.Key.{Key}
 use Rattle.call_text.specs.declared.key.Key.TheVariants.{Call as CallKey, Number, Grade, Amount}
 use Rattle.call_text.specs.declared.kind.Kind.{Kind}
 use Rattle.call_text.specs.declared.kind.Kind.TheVariants.{Slope as SlopeKind, Announce as AnnounceKind, Withdraw as WithdrawKind, Sample as SampleKind, Release as ReleaseKind}
-use Rattle.call_text.proofs.LineAnswers.{field_tail, fields_tail, call_tail, written_is, written_then}
+use Rattle.call_text.proofs.LineAnswers.{written_then}
 use Rattle.call_text.proofs.Separators.{Without, above, above_low, above_without, without_more, without_joined, split_at, split_parted}
 use Rattle.call_text.proofs.ValueTexts.{small, signed_high, value_short, same_value}
 

@@ -6,9 +6,9 @@ use Rattle.call_lines.proofs.reading.read_call.Goals as goal
 pub returns : goal.returns
 returns c =
     let text = c.args.text.now in
-    let call = c.read-line.result.call in
-    let next = c.read-line.result.next in
-    let answers = c.read-line.ensures in
+    let call = c.read_line.result.call in
+    let next = c.read_line.result.next in
+    let answers = c.read_line.ensures in
     record {
       answers = answers;
       exactly = λ d rest w is. taken d w text rest is call next answers;
