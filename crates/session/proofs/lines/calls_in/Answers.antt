@@ -1,15 +1,13 @@
-use Rattle.std.proofs.Common.{◌≡◌, ◌+◌, List, [], ◌∷◌, ◌++◌, drop, vec_items, refl, ap, ◌∙◌}
+use Rattle.std.proofs.Common.{◌≡◌, [], ◌∷◌, ◌++◌, vec_items, refl}
 use Rattle.std.proofs.lemmas.Slice.{pushed}
-use Rattle.calls.specs.declared.call.Call.{Call}
-use Rattle.session.specs.Lines.{calls_of}
 use Rattle.session.proofs.Turns.{call_more, calls_all, fault_more}
 use Rattle.session.proofs.lines.calls_in.Goals as goal
-use Rattle.session.proofs.lines.calls_in.Goals.{in-Ok+in-ok-push, in-Err}
+use Rattle.session.proofs.lines.calls_in.Goals.{in-Ok+in_ok-push-in-Ok, in-Err}
 
 pub loop-line-preserved : goal.loop-line-preserved
 loop-line-preserved c = elim c.match-line.branch [
-  | in-Ok+in-ok-push w ↦
-      let items : vec_items w.push.new.self ≡ vec_items c.loop-line.calls ++ w.in-Ok.call ∷ [] = pushed (w.in-Ok.call ∷ []) refl w.in-ok-push.was w.push.ensures.items in
+  | in-Ok+in_ok-push-in-Ok w ↦
+      let items : vec_items w.push.new.self ≡ vec_items c.loop-line.calls ++ w.in-Ok.call ∷ [] = pushed (w.in-Ok.call ∷ []) refl w.in_ok-push-in-Ok.was w.push.ensures.items in
       rw (w.calls-is, items) (call_more c.args.lines.now c.loop-line.line-index (vec_items c.loop-line.calls) w.in-Ok.call _ c.loop-line-test.true w.in-Ok.is c.loop-line.invariant)
   | in-Err w ↦
       rw w.calls-is (fault_more c.args.lines.now c.loop-line.line-index (vec_items c.loop-line.calls) w.in-Err.field-0 _ c.loop-line-test.true w.in-Err.is c.loop-line.invariant)
