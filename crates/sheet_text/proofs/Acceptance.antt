@@ -1,7 +1,7 @@
 -- A text is taken exactly where it is the text of a sheet that can be admitted, and of one sheet only.
 use Rattle.std.proofs.Common.{◌≡◌, ℕ, ◌<◌, true, false, List, [], ◌∷◌, ◌++◌, map, length, get_or, drop, Ok, Err, Result, sym, refl, ap, ◌∙◌, subst, append_assoc, append-nil, arith}
 use mathlib.Core.List.{append_cancel_left}
-use Rattle.std.specs.List.{AllByRecursion as All}
+use Rattle.std.specs.List.{AllByRecursion}
 use Rattle.std.proofs.lemmas.Fmt.{decimal_injective as same-from-decimal}
 use Rattle.std.proofs.lemmas.List.{get_or_at, length-append}
 use Rattle.std.proofs.lemmas.Bool.{and_parts}
@@ -76,9 +76,9 @@ record Goes_on (es fs : List Entry) (rest : List ℕ) (ks : List Key) : Type 0 w
   all : fs ≡ es ++ others
   text : rest ≡ lines others
   their_keys : map key_of others ≡ ks
-  ranged : All Ranged others
+  ranged : AllByRecursion Ranged others
 
-goes_on : (es fs : List Entry) (rest : List ℕ) (ks : List Key) → All Ranged es → All Ranged fs → map key_of fs ≡ map key_of es ++ ks → lines es ++ rest ≡ lines fs → Goes_on es fs rest ks
+goes_on : (es fs : List Entry) (rest : List ℕ) (ks : List Key) → AllByRecursion Ranged es → AllByRecursion Ranged fs → map key_of fs ≡ map key_of es ++ ks → lines es ++ rest ≡ lines fs → Goes_on es fs rest ks
 goes_on [] fs rest ks re rf is e = record { others = fs; all = refl; text = e; their_keys = is; ranged = rf }
 goes_on (x ∷ es) [] rest ks re rf is e = let z : ◌≡◌ {A = ℕ} 0 1 = cc in absurd (omega arith)
 goes_on (x ∷ es) (y ∷ fs) rest ks re rf is e =
@@ -93,7 +93,7 @@ goes_on (x ∷ es) (y ∷ fs) rest ks re rf is e =
     let next = goes_on es fs rest ks re.1 rf.1 more cut.1 in
     record { others = next.others; all = ap (λ (t : List Entry). y ∷ t) next.all ∙ ap (λ (z : Entry). z ∷ (es ++ next.others)) (sym same); text = next.text; their_keys = next.their_keys; ranged = next.ranged }
 
-entries_ranged : (v : Values) → in_ranges v ≡ true → All Ranged (entries_of v)
+entries_ranged : (v : Values) → in_ranges v ≡ true → AllByRecursion Ranged (entries_of v)
 entries_ranged v h =
     let a = and_parts (in_range Ep v.ep) _ h in
     let b = and_parts (in_range Lambda v.lambda) _ a.1 in
@@ -154,7 +154,7 @@ never_stops text v f h same s =
     let on = goes_on s.before (entries_of v) (drop (length (lines s.before)) text) (s.key ∷ s.behind) s.ranged (entries_ranged v h) s.in_order (sym s.fine ∙ same) in
     stuck on.others on.text on.their_keys on.ranged
   where
-    stuck : (es : List Entry) → drop (length (lines s.before)) text ≡ lines es → map key_of es ≡ s.key ∷ s.behind → All Ranged es → ⊥
+    stuck : (es : List Entry) → drop (length (lines s.before)) text ≡ lines es → map key_of es ≡ s.key ∷ s.behind → AllByRecursion Ranged es → ⊥
     stuck [] is ks rs = let z : ◌≡◌ {A = ℕ} 0 1 = cc in omega arith
     stuck (e ∷ es) is ks rs =
         let key : s.key ≡ key_of e = cc in

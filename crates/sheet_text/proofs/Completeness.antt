@@ -1,6 +1,6 @@
 -- Twelve entries with the twelve keys are the entries of a sheet.
 use Rattle.std.proofs.Common.{◌≡◌, ℕ, true, List, [], ◌∷◌, map, refl, ap, ◌∙◌, subst, arith}
-use Rattle.std.specs.List.{AllByRecursion as All}
+use Rattle.std.specs.List.{AllByRecursion}
 use Rattle.std.proofs.lemmas.Bool.{and_from}
 use Rattle.sheet.specs.Ranges.{in_ranges}
 use Rattle.sheet.specs.declared.words.Model.{Model}
@@ -90,7 +90,7 @@ complete es is =
     )
 
 -- where every entry is in range, the sheet is
-pub all_ranged : (v : Values) → All Ranged (entries_of v) → in_ranges v ≡ true
+pub all_ranged : (v : Values) → AllByRecursion Ranged (entries_of v) → in_ranges v ≡ true
 all_ranged v a =
     let numbers = a.1.1.1.1 in
     let others = numbers.1.1.1.1 in

@@ -1,6 +1,6 @@
 -- How far the reading of a sheet has come: some of its entries are read, and the text begins with their lines.
 use Rattle.std.proofs.Common.{◌≡◌, ℕ, ◌+◌, ◌<◌, ◌≤◌, true, List, [], ◌∷◌, ◌++◌, map, length, get_or, take, drop, Ok, sym, refl, ap, ◌∙◌, subst, append_assoc, append-nil, arith}
-use Rattle.std.specs.List.{AllByRecursion as All}
+use Rattle.std.specs.List.{AllByRecursion}
 use Rattle.std.proofs.lemmas.List.{length-append, take_more, drop_more, take-append-drop, take_all, drop_all}
 use Rattle.std.proofs.ByRecursion.{All-push}
 use Rattle.sheet.specs.Ranges.{in_ranges}
@@ -16,7 +16,7 @@ use Rattle.sheet_text.specs.declared.key.Key.{Key}
 pub record Progress (text : List ℕ) (i at : ℕ) (v : Values) : Type 0 where
   pub done : List Entry
   pub in_order : map key_of done ≡ take i keys
-  pub ranged : All Ranged done
+  pub ranged : AllByRecursion Ranged done
   pub fine : text ≡ lines done ++ drop at text
   pub place : at ≡ length (lines done)
   pub within : at ≤ length text
@@ -67,7 +67,7 @@ finish text i at v p h =
     let is : v ≡ all.0 = p.values ∙ ap (λ (es : List Entry). puts es blank) all.1 in
     let same : lines p.done ≡ written v = ap lines all.1 ∙ ap written (sym is) in
     record {
-      ranged = subst (λ (w : Values). in_ranges w ≡ true) (sym is) (all_ranged all.0 (subst (All Ranged) all.1 p.ranged));
+      ranged = subst (λ (w : Values). in_ranges w ≡ true) (sym is) (all_ranged all.0 (subst (AllByRecursion Ranged) all.1 p.ranged));
       front = p.fine ∙ ap (λ (t : List ℕ). t ++ drop at text) same;
       ends = p.place ∙ ap length same;
       within = p.within;

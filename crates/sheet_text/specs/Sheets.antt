@@ -17,7 +17,7 @@ use Rattle.sheet_text.specs.declared.entry.Entry.TheVariants.{Model as OfModel, 
 use Rattle.sheet_text.specs.declared.faults.SheetFault.{SheetFault}
 use Rattle.sheet_text.specs.declared.faults.SheetFault.TheVariants.{Value, OutOfRange, LeftOver, GoodsBrake}
 use Rattle.sheet_text.specs.declared.key.Key.{Key}
-use Rattle.std.specs.List.{AllByRecursion as All}
+use Rattle.std.specs.List.{AllByRecursion}
 
 -- A sheet with one number changed.
 abbrev pub put_number : NumberKey → ℕ → Values → Values
@@ -53,7 +53,7 @@ pub record Stops (text : List ℕ) (f : SheetFault) : Type 0 where
   pub key : Key
   pub behind : List Key
   pub in_order : keys ≡ map key_of before ++ key ∷ behind
-  pub ranged : All Ranged before
+  pub ranged : AllByRecursion Ranged before
   pub fine : text ≡ lines before ++ drop (length (lines before)) text
   pub faulty : LineFault key text (length (lines before)) f
 

@@ -1,6 +1,6 @@
 -- The text of an admissible sheet is not longer than the memory asked for.
 use Rattle.std.proofs.Common.{◌≡◌, ℕ, ◌+◌, ◌≤◌, true, List, [], ◌∷◌, ◌++◌, length, decimal, arith}
-use Rattle.std.specs.List.{AllByRecursion as All}
+use Rattle.std.specs.List.{AllByRecursion}
 use Rattle.std.proofs.lemmas.Fmt.{length-decimal-le}
 use Rattle.std.proofs.lemmas.List.{length-append}
 use Rattle.std.proofs.lemmas.Bool.{and_parts, leb-true}
@@ -56,7 +56,7 @@ eps_most v fine =
 abbrev Short : Entry → Type 0
 Short e = length (value_text e) ≤ 4
 
-all_short : (v : Values) → admissible v ≡ true → All Short (entries_of v)
+all_short : (v : Values) → admissible v ≡ true → AllByRecursion Short (entries_of v)
 all_short v fine =
     let most = limits v fine in
     let ep = number_short v.ep (omega (arith, most.ep)) in
@@ -76,7 +76,7 @@ abbrev most_bytes : List Entry → ℕ
 most_bytes [] = 0
 most_bytes (e ∷ es) = length (name_of (key_of e)) + 6 + most_bytes es
 
-lines_short : (es : List Entry) → All Short es → length (lines es) ≤ most_bytes es
+lines_short : (es : List Entry) → AllByRecursion Short es → length (lines es) ≤ most_bytes es
 lines_short [] all = omega arith
 lines_short (e ∷ es) all = omega (arith, length-append (line_text e) (lines es), line_length e, all.0, lines_short es all.1)
 
