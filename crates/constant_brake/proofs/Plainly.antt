@@ -1,10 +1,10 @@
 -- The meaning of the brake in plain words.
-use Rattle.std.proofs.Common.{◌≡◌, ℕ, ◌+◌, ◌-◌, ◌*◌, ◌<◌, ◌≤◌, max, true, false, cond, ltb, leb, ℤ, pos, negsuc, ◌+ℤ◌, ◌-ℤ◌, ◌*ℤ◌, ◌≤ℤ◌, ◌<ℤ◌, refl, ap, le_of_lt, mul-le-mul, arith}
+use Rattle.std.proofs.Common.{◌≡◌, ℕ, ◌+◌, ◌-◌, ◌*◌, ◌<◌, ◌≤◌, true, false, ltb, leb, ℤ, pos, negsuc, ◌+ℤ◌, ◌-ℤ◌, ◌*ℤ◌, ◌≤ℤ◌, ◌<ℤ◌, refl, ap, le_of_lt, mul-le-mul, arith}
 use lib.Signed.{lt_z}
 use Rattle.std.proofs.lemmas.Bool.{cond_both}
 use Rattle.std.proofs.lemmas.Int.{ints}
-use Rattle.units.specs.Fractions.{Fraction, whole, ratio, ◌≈◌, ◌⊕◌}
-use Rattle.braking.specs.Meaning.{Question, weak, strong}
+use Rattle.units.specs.Fractions.{Fraction, ratio, ◌≈◌, ◌⊕◌}
+use Rattle.braking.specs.Meaning.{Question, weak}
 use Rattle.braking.specs.Laws.{Strong}
 use Rattle.stopping.specs.Slopes.{slope_of}
 use Rattle.stopping.specs.Stops.{Stop, natural, reached, net_exact, net_positive, run, braked, exact_control, exact_distances, verdict}

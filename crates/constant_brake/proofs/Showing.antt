@@ -1,11 +1,11 @@
 -- The steps that were worked out for an approach are those of its question.
-use Rattle.std.proofs.Common.{◌≡◌, ℕ, ℤ, pos, Ok, refl, subst}
+use Rattle.std.proofs.Common.{◌≡◌, ℕ, pos, Ok, refl, subst}
 use Rattle.units.specs.Fractions.{Fraction, whole}
 use Rattle.braking.specs.Meaning.{Question}
 use Rattle.braking.specs.Answers.{Asking, asked_of}
 use Rattle.braking.specs.declared.approach.Approach.{Approach}
 use Rattle.stopping.specs.Slopes.{slope_of}
-use Rattle.stopping.specs.Stops.{Stop, natural}
+use Rattle.stopping.specs.Stops.{Stop}
 use Rattle.stopping.specs.Working.{Worked, stop_of}
 use Rattle.stopping.specs.declared.stop.Stop.{Stop as StopStruct}
 use Rattle.stopping.specs.declared.steps.Steps.{Steps}

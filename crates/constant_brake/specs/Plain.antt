@@ -1,7 +1,7 @@
 -- The meaning in plain words, above its definition by a stop.
 use Rattle.std.specs.Prelude.{◌≡◌, ℕ, ◌-◌, ◌*◌, ◌<◌, ◌≤◌, ℤ, pos, negsuc, ◌+ℤ◌, ◌≤ℤ◌, ◌<ℤ◌}
 use Rattle.units.specs.Fractions.{Fraction, ratio, ◌≈◌, ◌⊕◌}
-use Rattle.braking.specs.Meaning.{Question, Verdict, Asked, Binds, weak, strong}
+use Rattle.braking.specs.Meaning.{Question, Verdict, weak, strong}
 use Rattle.braking.specs.Laws.{Strong}
 use Rattle.stopping.specs.Slopes.{slope_of}
 use Rattle.constant_brake.specs.Formulas.{meaning_of}

@@ -1,7 +1,7 @@
 -- Worked figures of the two models, each worked out apart from this repository.
 use Rattle.std.specs.Prelude.{◌≡◌, ℕ, ℤ, pos, negsuc}
 use Rattle.units.specs.Fractions.{Fraction, ratio, ◌≈◌}
-use Rattle.braking.specs.Meaning.{Question, Meaning, Verdict, weak, strong}
+use Rattle.braking.specs.Meaning.{Question, Verdict, weak, strong}
 use Rattle.sheet.specs.declared.values.Values.{Values}
 use Rattle.stopping.specs.Slopes.{slope_of}
 use Rattle.stopping.specs.Stops.{reached_up}

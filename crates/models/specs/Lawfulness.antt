@@ -1,12 +1,12 @@
 -- Both models keep the laws of a braking model, over every admissible sheet and every question.
-use Rattle.std.specs.Prelude.{◌≡◌, ℕ, ◌+◌, ◌-◌, ◌*◌, ◌<◌, ◌≤◌, max, Bool, true, cond, List, [], ◌∷◌, ℤ, pos, negsuc, ◌≤ℤ◌, nat_lt}
+use Rattle.std.specs.Prelude.{◌≡◌, ℕ, ◌≤◌, Bool, true, List, [], ◌∷◌, nat_lt}
 use Rattle.std.proofs.Common.{le_trans, le_of_lt, arith, lit<}
 use Rattle.std.proofs.lemmas.Bool.{cond_both}
 use Rattle.units.specs.Fractions.{Fraction, whole, ratio, ◌≼◌, ◌≺◌}
 use Rattle.braking.specs.Meaning.{Question, Asked, Binds}
 use Rattle.braking.specs.Laws.{Lawful}
 use Rattle.sheet.specs.Ranges.{admissible}
-use Rattle.sheet.proofs.Limits.{Limits, limits}
+use Rattle.sheet.proofs.Limits.{limits}
 use Rattle.sheet.specs.declared.words.Model.{Model}
 use Rattle.sheet.specs.declared.words.Model.TheVariants.{Scmt, Etcs}
 use Rattle.sheet.specs.declared.words.Regime.{Regime}
@@ -18,7 +18,7 @@ use Rattle.stopping.specs.Working.{Lawful as LawfulStop}
 use Rattle.stopping.proofs.Gradients.{slope_not_below, slope_not_above}
 use Rattle.stopping.proofs.Losses.{near}
 use Rattle.stopping.proofs.Margin.{lawful}
-use Rattle.models.specs.Formulas.{top, scmt_where, fading, fast, targeted, start, factors}
+use Rattle.models.specs.Formulas.{top, scmt_where, fading, fast, start, factors}
 use Rattle.models.specs.Meanings.{stop_for, meaning_of}
 use Rattle.models.specs.Vl.{vl}
 use Rattle.models.specs.PipeTimes.{reaction_bounded}

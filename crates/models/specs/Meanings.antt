@@ -1,5 +1,4 @@
 -- What the two models mean: the stop of a question by the formulas, and its verdict.
-use Rattle.std.specs.Prelude.{ℕ}
 use Rattle.units.specs.Fractions.{whole}
 use Rattle.braking.specs.Meaning.{Meaning, Question}
 use Rattle.sheet.specs.declared.words.Model.{Model}

@@ -1,5 +1,5 @@
 -- The slope's part of the deceleration stays within its limits.
-use Rattle.std.proofs.Common.{ℕ, ◌*◌, ◌≤◌, ltb, leb, ℤ, pos, negsuc, ◌*ℤ◌, ◌≤ℤ◌, arith}
+use Rattle.std.proofs.Common.{ℕ, ltb, leb, ℤ, pos, negsuc, ◌*ℤ◌, ◌≤ℤ◌, arith}
 use Rattle.std.proofs.lemmas.Bool.{cond_both}
 use Rattle.std.proofs.lemmas.Int.{ints}
 use Rattle.stopping.specs.Slopes.{slope_of}

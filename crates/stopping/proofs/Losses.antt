@@ -1,5 +1,5 @@
 -- Rounding down after each factor loses little: one factor first, then a list of them.
-use Rattle.std.proofs.Common.{ℕ, ◌+◌, ◌*◌, ◌/◌, ◌<◌, ◌≤◌, List, [], ◌∷◌, le_of_lt, mul-le-mul_right, arith}
+use Rattle.std.proofs.Common.{ℕ, ◌+◌, ◌*◌, ◌≤◌, List, le_of_lt, mul-le-mul_right, arith}
 use native.Mathlib.Nat.{lt_of_mul-lt-mul_left}
 use Rattle.units.specs.Fractions.{Fraction, whole, ◌≼◌, ◌≺◌, ◌⊕◌, ◌⊗◌}
 use Rattle.units.proofs.Quotients.{rounded_down as quotient-rounded}

@@ -1,13 +1,13 @@
 -- The verdict of a stop within limits keeps the laws of a braking model.
-use Rattle.std.proofs.Common.{◌≡◌, ℕ, suc, ◌+◌, ◌-◌, ◌*◌, ◌<◌, ◌≤◌, max, Bool, true, false, cond, ℤ, pos, negsuc, ◌+ℤ◌, ◌*ℤ◌, ◌≤ℤ◌, ◌<ℤ◌, refl, ap, mul-le-mul_right, lt_of_mul-lt-mul_right, mul-pos, one-mul, mul-one, le_of_mul-le-mul_right, arith, lit<, lit≤}
+use Rattle.std.proofs.Common.{◌≡◌, ℕ, suc, ◌+◌, ◌-◌, ◌*◌, ◌<◌, ◌≤◌, true, false, cond, ℤ, pos, negsuc, ◌+ℤ◌, ◌*ℤ◌, ◌≤ℤ◌, ◌<ℤ◌, refl, ap, mul-le-mul_right, lt_of_mul-lt-mul_right, mul-pos, one-mul, mul-one, le_of_mul-le-mul_right, arith, lit<, lit≤}
 use lib.Signed.{lt_z}
 use Rattle.std.proofs.lemmas.Int.{ints}
-use Rattle.units.specs.Fractions.{Fraction, whole, ratio, ◌≼◌, ◌≺◌, ◌⊕◌, ◌⊗◌}
+use Rattle.units.specs.Fractions.{Fraction, whole, ratio, ◌⊕◌}
 use Rattle.units.specs.Rounding.{ceiling, RoundedUp}
 use Rattle.units.proofs.Quotients.{rounded_up}
-use Rattle.braking.specs.Meaning.{Verdict, Three, weak, strong}
-use Rattle.braking.specs.Laws.{Within, Close, Strong, Sound}
-use Rattle.stopping.specs.Stops.{Stop, Limited, Near, natural, target_steps, reached, reached_up, net, net_exact, net_positive, run, braked, lead, exact_control, exact_distances, computed_control, computed_lead, computed_distances, verdict}
+use Rattle.braking.specs.Meaning.{weak, strong}
+use Rattle.braking.specs.Laws.{Within, Strong, Sound}
+use Rattle.stopping.specs.Stops.{Stop, Limited, Near, natural, target_steps, reached, reached_up, net, net_exact, net_positive, run, braked, lead, exact_control, exact_distances, computed_lead, computed_distances, verdict}
 use Rattle.stopping.specs.Working.{Lawful, Uncut}
 use Rattle.stopping.proofs.Terms.{sum_within, within_more, speed_term, braking_term}
 use Rattle.stopping.proofs.Reaching.{reached_not_below, reached_up_bounded}

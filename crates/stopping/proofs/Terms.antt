@@ -1,7 +1,7 @@
 -- Each term of a distance is within its slack of the exact one, and slacks add up.
 use Rattle.std.proofs.Common.{◌≡◌, ℕ, ◌+◌, ◌-◌, ◌*◌, ◌<◌, ◌≤◌, ap, le_of_lt, mul-le-mul_right, mul-le-mul, mul-le-mul_left, sub-add_cancel, arith}
 use native.Mathlib.Nat.{le_of_mul-le-mul_left}
-use Rattle.units.specs.Fractions.{Fraction, whole, ratio, ◌≼◌, ◌⊕◌}
+use Rattle.units.specs.Fractions.{Fraction, ratio, ◌≼◌, ◌⊕◌}
 use Rattle.units.specs.Rounding.{RoundedUp}
 use Rattle.braking.specs.Laws.{Within}
 

@@ -1,6 +1,6 @@
 -- A whole number times factors, one after the other: exactly, and rounded down after each.
 use Rattle.std.specs.Prelude.{ℕ, ◌*◌, ◌/◌, List, [], ◌∷◌}
-use Rattle.units.specs.Fractions.{Fraction, whole, ◌≼◌, ◌≺◌, ◌⊕◌, ◌⊗◌}
+use Rattle.units.specs.Fractions.{Fraction, whole, ◌≼◌, ◌⊕◌, ◌⊗◌}
 
 -- The exact product of x and all the factors.
 abbrev pub product : Fraction → List Fraction → Fraction

@@ -1,10 +1,10 @@
 -- What the steps of a stop are, and that they are lawful.
-use Rattle.std.specs.Prelude.{◌≡◌, ℕ, ◌*◌, ◌<◌, pos, ◌≤ℤ◌, ◌<ℤ◌}
+use Rattle.std.specs.Prelude.{◌≡◌, ◌*◌, ◌<◌, pos, ◌≤ℤ◌, ◌<ℤ◌}
 use Rattle.units.specs.Fractions.{Fraction, whole, ◌≼◌}
 use Rattle.braking.specs.Meaning.{weak}
 use Rattle.braking.specs.Laws.{Strong, Sound}
 use Rattle.braking.specs.Answers.{Says}
-use Rattle.stopping.specs.Stops.{Stop, natural, target_steps, reached, reached_up, net, net_exact, net_positive, verdict, Limited, Near}
+use Rattle.stopping.specs.Stops.{Stop, natural, target_steps, reached, reached_up, net, net_exact, net_positive, verdict}
 use Rattle.stopping.specs.declared.stop.Stop.{Stop as StopStruct}
 use Rattle.stopping.specs.declared.steps.Steps.{Steps}
 

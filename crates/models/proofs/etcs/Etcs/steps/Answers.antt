@@ -2,8 +2,8 @@ use Rattle.sheet.proofs.Limits.{limits}
 use Rattle.models.proofs.Showing.{shown, not_negative}
 use Rattle.models.proofs.etcs.Etcs.steps.Goals as goal
 
-pub work-out-requires : goal.work-out-requires
-work-out-requires c =
+pub work_out-requires : goal.work_out-requires
+work_out-requires c =
     let within = limits c.args.self.now.values c.args.self.now.fine in
     record {
       tw = within.tw;
@@ -15,5 +15,5 @@ work-out-requires c =
 
 pub returns : goal.returns
 returns c =
-    shown _ c.args.self.now.values _ c.in-ok-approach.approach _ _ _ c.in-ok-approach.ensures
-    c.reaction_time.ensures.value c.braking.ensures.value c.work-out.ensures
+    shown _ c.args.self.now.values _ c.in_ok-approach.approach _ _ _ c.in_ok-approach.ensures
+    c.reaction_time.ensures.value c.braking.ensures.value c.work_out.ensures

@@ -9,7 +9,7 @@ unfolding vl
 returns c =
     let values = c.args.self.now.values in
     let within = limits values c.args.self.now.fine in
-    let value : c.from.result ≡ vl values.lambda = c.from.ensures ∙ c.entry-at.ensures in
+    let value : c.from.result ≡ vl values.lambda = c.from.ensures ∙ c.entry_at.ensures in
     record {
       value = value;
       rule = subst (λ (n : ℕ). Greatest values.lambda n) (sym value) (greatest values.lambda within.lambda_least within.lambda_most within.lambda_fives);

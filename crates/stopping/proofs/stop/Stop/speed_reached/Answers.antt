@@ -56,31 +56,31 @@ returned s q m f fits e limits =
     let value = is_reached_up s q r f reaches (rw is least) either in
     record { value = value; bounded = rw value (reached_up_bounded s limits); reaches = reaches }
 
-pub overflow-mul-self-2 : goal.overflow-mul-self-2
-overflow-mul-self-2 c =
+pub overflow_mul-self-2 : goal.overflow_mul-self-2
+overflow_mul-self-2 c =
     let T : ℕ = c.args.self.now.reaction.ticks in
     let G : ℤ = c.args.self.now.slope.units in
     let e : to_z w64 (of_z w64 (pos 9 *ℤ to_z w64 T)) ≡ pos (9 * T) = omega (arith, ints, c.args.self.now.brief) in
     let k : to_z w64 (of_z w64 G) ≡ G = to_z-of_z w64 G (slope_fits G c.args.self.now.not_steeper_down c.args.self.now.not_steeper_up) in
     simp (e, k) (product_fits T G c.args.self.now.brief c.args.self.now.not_steeper_down c.args.self.now.not_steeper_up)
 
-pub after-loss-reached-requires : goal.after-loss-reached-requires
-after-loss-reached-requires c =
+pub after_loss-reached-requires : goal.after_loss-reached-requires
+after_loss-reached-requires c =
     let self = c.args.self.now in
-    let q : ℤ = c.quotient-floor-loss.result in
-    let f = loss_floored self.reaction.ticks self.slope.units q self.brief self.not_steeper_down self.not_steeper_up c.quotient-floor-loss.ensures.meaning in
+    let q : ℤ = c.quotient_floor-loss.result in
+    let f = loss_floored self.reaction.ticks self.slope.units q self.brief self.not_steeper_down self.not_steeper_up c.quotient_floor-loss.ensures.meaning in
     let small = loss_within self.reaction.ticks self.slope.units q self.brief self.not_steeper_down self.not_steeper_up f in
     record { slow = self.slow; not_below = omega (arith, ints, small.0, small.1); not_above = omega (arith, ints, small.0, small.1) }
 
-pub overflow-cast-result : goal.overflow-cast-result
-overflow-cast-result c = let h = c.max.ensures.other-bound in (omega (arith, ints, c.max.type-inv), omega (arith, ints, c.max.type-inv))
+pub overflow_cast-result : goal.overflow_cast-result
+overflow_cast-result c = let h = c.max.ensures.other_bound in (omega (arith, ints, c.max.type_inv), omega (arith, ints, c.max.type_inv))
 
 pub returns : goal.returns
 returns c =
     let self = c.args.self.now in
-    let q : ℤ = c.quotient-floor-loss.result in
-    let f = loss_floored self.reaction.ticks self.slope.units q self.brief self.not_steeper_down self.not_steeper_up c.quotient-floor-loss.ensures.meaning in
+    let q : ℤ = c.quotient_floor-loss.result in
+    let f = loss_floored self.reaction.ticks self.slope.units q self.brief self.not_steeper_down self.not_steeper_up c.quotient_floor-loss.ensures.meaning in
     let small = loss_within self.reaction.ticks self.slope.units q self.brief self.not_steeper_down self.not_steeper_up f in
-    let a = uncast_reached self.speed.tenths q c.after-loss-reached.result self.slow small.0 small.1 c.after-loss-reached.ensures in
+    let a = uncast_reached self.speed.tenths q c.after_loss-reached.result self.slow small.0 small.1 c.after_loss-reached.ensures in
     let b = uncast_target self.target.tenths (le_trans self.lower self.slow) in
-    returned (stop_of self (whole 0)) q c.max.result f c.max.type-inv (simp (a, b) at c.max.ensures.value) (limited self (whole 0))
+    returned (stop_of self (whole 0)) q c.max.result f c.max.type_inv (simp (a, b) at c.max.ensures.value) (limited self (whole 0))

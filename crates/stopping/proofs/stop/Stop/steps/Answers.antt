@@ -11,7 +11,7 @@ use Rattle.stopping.proofs.Limits.{limited}
 use Rattle.stopping.proofs.Losses.{factors_lose}
 use Rattle.stopping.proofs.Margin.{lawful, uncut}
 use Rattle.stopping.proofs.stop.Stop.steps.Goals as goal
-use Rattle.stopping.proofs.stop.Stop.steps.Goals.{then-is-weak, else-is-weak}
+use Rattle.stopping.proofs.stop.Stop.steps.Goals.{then-is_weak, else-is_weak}
 
 natural_is : (z : ℤ) → pos 0 ≤ℤ z → z ≡ pos (natural z)
 natural_is (pos n) h = refl
@@ -48,18 +48,18 @@ returns c =
     let G : ℤ = self.slope.units in
     let is-net : c.net-net.result.units ≡ pos (natural self.braking.units) +ℤ G = c.net-net.ensures ∙ ap (λ (z : ℤ). z +ℤ G) (natural_is self.braking.units self.braking_on) in
     let fits = net_fits self.braking.units G self.braking_on self.braking_bounded self.not_steeper_down self.not_steeper_up in
-    let tested : c.is-weak.result ≡ lt_z (pos (natural self.braking.units) +ℤ G) (pos 500000) = simp is-net at c.is-weak.ensures in
+    let tested : c.is_weak.result ≡ lt_z (pos (natural self.braking.units) +ℤ G) (pos 500000) = simp is-net at c.is_weak.ensures in
     record {
       worked = λ exact. record {
         reaction = refl;
         slope = refl;
-        reached = c.speed-reached-reached.ensures.value;
+        reached = c.speed_reached-reached.ensures.value;
         net = is-net;
-        answer = elim c.if-is-weak.branch [
-          | then-is-weak w ↦ says_weak (stop_of self exact) _ (sym tested ∙ w.if-is-weak.true) w.answer-is
-          | else-is-weak w ↦
-              says_strong (stop_of self exact) _ w.distances.result c.speed-reached-reached.result.steps (sym tested ∙ w.if-is-weak.false) w.answer-is
-              c.speed-reached-reached.ensures.value (simp (is-net, fits) at w.distances.ensures.control) w.distances.ensures.warning w.distances.ensures.nominal
+        answer = elim c.if-is_weak.branch [
+          | then-is_weak w ↦ says_weak (stop_of self exact) _ (sym tested ∙ w.if-is_weak.true) w.answer-is
+          | else-is_weak w ↦
+              says_strong (stop_of self exact) _ w.distances.result c.speed_reached-reached.result.steps (sym tested ∙ w.if-is_weak.false) w.answer-is
+              c.speed_reached-reached.ensures.value (simp (is-net, fits) at w.distances.ensures.control) w.distances.ensures.warning w.distances.ensures.nominal
         ];
       };
       lawful = λ exact near. lawful (stop_of self exact) (limited self exact) near;
