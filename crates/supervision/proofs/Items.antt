@@ -1,10 +1,9 @@
 -- What is found, put in and taken out of a list, seen as sections or targets over plain numbers.
-use Rattle.std.proofs.Common.{◌≡◌, ℕ, zero, suc, ◌+◌, ◌-◌, ◌<◌, Bool, true, false, cond, not, ◌||◌, eqb, ltb, List, [], ◌∷◌, ◌++◌, map, length, get_or, take, drop, ℤ, Some, None, sym, refl, ap, ◌∙◌, subst, inl, inr, arith}
+use Rattle.std.proofs.Common.{◌≡◌, ℕ, zero, suc, ◌+◌, ◌-◌, ◌<◌, Bool, true, false, cond, not, ◌||◌, eqb, ltb, List, [], ◌∷◌, map, ℤ, Some, None, refl, ap, ◌∙◌, inl, inr, arith}
 use Rattle.std.specs.List.{remove}
-use Rattle.std.proofs.lemmas.Bool.{cond_both, eq-eqb, ne_eqb}
+use Rattle.std.proofs.lemmas.Bool.{eq-eqb, ne_eqb}
 use Rattle.place_list.specs.Finding.{FirstAt, Found}
 use Rattle.place_list.specs.Insertion.{placed_in}
-use Rattle.place_list.specs.Membership.{In}
 use Rattle.place_list.specs.Places.{place_of}
 use Rattle.place_list.specs.Sequence.{Kept, Unaltered, room, sequence}
 use Rattle.place_list.specs.declared.list.PlaceList.{PlaceList}

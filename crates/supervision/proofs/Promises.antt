@@ -4,7 +4,7 @@ use Rattle.units.specs.declared.quantities.Grade.{Grade}
 use Rattle.braking.specs.Laws.{Lawful}
 use Rattle.braking.specs.Meaning.{Meaning}
 use Rattle.calls.specs.declared.answer.Answer.{Answer}
-use Rattle.calls.specs.declared.answer.Answer.TheVariants.{Accepted, Sampled, Refused}
+use Rattle.calls.specs.declared.answer.Answer.TheVariants.{Refused}
 use Rattle.calls.specs.declared.call.Call.{Call}
 use Rattle.calls.specs.declared.call.Call.TheVariants.{Slope, Announce, Withdraw, Sample, Release}
 use Rattle.calls.specs.declared.phase.Phase.{Phase}
