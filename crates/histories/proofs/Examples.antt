@@ -1,5 +1,5 @@
 -- The worked run, that its meaning is lawful, and histories that the lines rule out.
-use Rattle.std.proofs.Common.{◌≡◌, ℕ, ◌+◌, ◌*◌, ◌<◌, ◌≤◌, Bool, true, false, cond, ◌⊎◌, List, [], ◌∷◌, ◌++◌, ℤ, pos, ◌≤ℤ◌, ◌<ℤ◌, sym, refl, ap, ◌∙◌, subst, inl, inr, arith, lit<, lit≤}
+use Rattle.std.proofs.Common.{◌≡◌, ℕ, ◌*◌, Bool, true, false, cond, [], ◌∷◌, ◌++◌, pos, ◌≤ℤ◌, ◌<ℤ◌, sym, refl, ap, ◌∙◌, subst, inl, inr, arith, lit<, lit≤}
 use lib.Signed.{lt_z}
 use Rattle.std.proofs.lemmas.Int.{ints}
 use Rattle.units.specs.Fractions.{whole}
@@ -10,7 +10,7 @@ use Rattle.calls.specs.declared.phase.Phase.TheVariants.{Free, Warning, Emergenc
 use Rattle.calls.specs.declared.record.Record.{Record}
 use Rattle.history.specs.History.{History, Target, Bound, slope, announce, withdraw, sample, release}
 use Rattle.history.specs.Lines.{Lines, Reason, MayBrake, IsClear, LastSampleClear}
-use Rattle.history.specs.Step.{State, start, question, step}
+use Rattle.history.specs.Step.{State, start, question}
 use Rattle.history.specs.Agrees.{Tracks}
 use Rattle.history.proofs.Splits.{stands_none, nil_split, split_push}
 use Rattle.history.proofs.Tracks.{tracks_start, tracks_step, tracks_sampled, ahead_is, kinds, same_front, same_speed}

@@ -1,5 +1,5 @@
 -- A run worked out in numbers, and histories that the three lines rule out.
-use Rattle.std.specs.Prelude.{◌≡◌, ℕ, ◌*◌, cond, List, [], ◌∷◌, ◌++◌, map, pos, int_lt}
+use Rattle.std.specs.Prelude.{◌≡◌, ◌*◌, cond, List, [], ◌∷◌, ◌++◌, map, pos, int_lt}
 use Rattle.std.proofs.Common.{lit<}
 use Rattle.units.specs.Fractions.{whole}
 use Rattle.braking.specs.Meaning.{Meaning, weak, strong}

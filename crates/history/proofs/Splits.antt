@@ -1,5 +1,5 @@
 -- What one more entry does to a history: how it splits, and what then stands.
-use Rattle.std.proofs.Common.{◌≡◌, ℕ, ◌⊎◌, List, [], ◌∷◌, ◌++◌, sym, refl, ap, ◌∙◌, subst, inl, inr, append_assoc, arith}
+use Rattle.std.proofs.Common.{◌≡◌, ℕ, ◌⊎◌, [], ◌∷◌, ◌++◌, sym, refl, ap, ◌∙◌, subst, inl, inr, append_assoc, arith}
 use Rattle.calls.specs.declared.call.Call.{Call}
 use Rattle.calls.specs.declared.phase.Phase.{Phase}
 use Rattle.calls.specs.declared.record.Record.{Record}

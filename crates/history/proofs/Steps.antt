@@ -1,5 +1,5 @@
 -- Each step keeps the three lines, and what clear says.
-use Rattle.std.proofs.Common.{◌≡◌, ℕ, ◌+◌, ◌*◌, ◌<◌, ◌≤◌, Bool, true, false, cond, not, ◌||◌, ltb, leb, ◌⊎◌, List, [], ◌∷◌, ◌++◌, ℤ, pos, negsuc, ◌≤ℤ◌, ◌<ℤ◌, Some, None, Option, sym, refl, ap, ◌∙◌, subst, inl, inr, arith}
+use Rattle.std.proofs.Common.{◌≡◌, ℕ, ◌<◌, ◌≤◌, Bool, true, false, not, ltb, [], ◌∷◌, ◌++◌, ℤ, pos, ◌≤ℤ◌, Some, None, sym, refl, ap, ◌∙◌, subst, inl, inr, arith}
 use lib.Signed.{lt_z}
 use Rattle.std.proofs.lemmas.Int.{ints}
 use Rattle.std.proofs.lemmas.Bool.{cases_lt, lt-ltb, le-ltb, or_parts}
@@ -7,19 +7,17 @@ use Rattle.units.specs.declared.quantities.Distance.{Distance}
 use Rattle.units.specs.declared.quantities.Speed.{Speed}
 use Rattle.braking.specs.Laws.{Lawful, Sound}
 use Rattle.braking.specs.Meaning.{Meaning, Question, Asked}
-use Rattle.calls.specs.declared.answer.Answer.{Answer}
-use Rattle.calls.specs.declared.answer.Answer.TheVariants.{Accepted, Refused}
+use Rattle.calls.specs.declared.answer.Answer.TheVariants.{Refused}
 use Rattle.calls.specs.declared.call.Call.{Call}
 use Rattle.calls.specs.declared.call.Call.TheVariants.{Slope, Announce, Withdraw, Sample, Release}
 use Rattle.calls.specs.declared.phase.Phase.{Phase}
 use Rattle.calls.specs.declared.phase.Phase.TheVariants.{Free, Warning, Emergency}
 use Rattle.calls.specs.declared.record.Record.{Record}
 use Rattle.calls.specs.declared.refusal.Refusal.{Refusal}
-use Rattle.calls.specs.declared.zone.Zone.{Zone}
 use Rattle.calls.specs.declared.zone.Zone.TheVariants as zones
-use Rattle.history.specs.History.{History, Section, Target, Accepts, WasAccepted, Bound, steepest, sample, release}
-use Rattle.history.specs.Lines.{Lines, BrakesInTime, LastSampleClear, Reason, MustBrake, MayBrake, IsClear, On, last_phase}
-use Rattle.history.specs.Step.{State, Stepped, step, does, decide, first, grounds, least_grade, unfit_grade, question, target_zone, largest_zone, zone, zone_in, zone_of, next, releasable}
+use Rattle.history.specs.History.{History, Target, Accepts, WasAccepted, Bound, steepest, sample}
+use Rattle.history.specs.Lines.{Lines, LastSampleClear, Reason, MustBrake, IsClear, On}
+use Rattle.history.specs.Step.{State, Stepped, step, does, decide, first, grounds, unfit_grade, question, target_zone, largest_zone, zone_in, zone_of, next, releasable}
 use Rattle.history.specs.Runs.{entry_of}
 use Rattle.history.specs.Agrees.{Tracks}
 use Rattle.history.proofs.Splits.{nil_split, split_push, longer}

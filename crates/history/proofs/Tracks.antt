@@ -1,7 +1,7 @@
 -- The state holds what stands by the history: a relation that each step keeps.
-use Rattle.std.proofs.Common.{◌≡◌, ℕ, ◌+◌, ◌-◌, ◌<◌, ◌≤◌, Bool, true, false, cond, not, ◌||◌, eqb, ltb, ◌⊎◌, List, [], ◌∷◌, ◌++◌, ℤ, ◌≤ℤ◌, Some, None, Option, sym, refl, ap, ◌∙◌, subst, inl, inr, arith}
+use Rattle.std.proofs.Common.{◌≡◌, ℕ, true, false, cond, List, [], ◌∷◌, ◌++◌, ℤ, ◌≤ℤ◌, Some, None, sym, refl, ap, ◌∙◌, subst, inl, inr, arith}
 use Rattle.std.proofs.lemmas.Int.{ints}
-use Rattle.std.proofs.lemmas.Bool.{cases_lt, cond_both}
+use Rattle.std.proofs.lemmas.Bool.{cases_lt}
 use Rattle.units.specs.declared.quantities.Distance.{Distance}
 use Rattle.units.specs.declared.quantities.Grade.{Grade}
 use Rattle.units.specs.declared.quantities.Speed.{Speed}
@@ -9,16 +9,15 @@ use Rattle.place_list.specs.Membership.{In}
 use Rattle.place_list.specs.Insertion.{placed_in}
 use Rattle.braking.specs.Meaning.{Meaning}
 use Rattle.calls.specs.declared.answer.Answer.{Answer}
-use Rattle.calls.specs.declared.answer.Answer.TheVariants.{Accepted, Sampled, Refused}
+use Rattle.calls.specs.declared.answer.Answer.TheVariants.{Refused}
 use Rattle.calls.specs.declared.call.Call.{Call}
 use Rattle.calls.specs.declared.call.Call.TheVariants.{Slope, Announce, Withdraw, Sample, Release}
 use Rattle.calls.specs.declared.phase.Phase.{Phase}
 use Rattle.calls.specs.declared.phase.Phase.TheVariants.{Free}
 use Rattle.calls.specs.declared.record.Record.{Record}
 use Rattle.calls.specs.declared.refusal.Refusal.{Refusal}
-use Rattle.history.specs.History.{History, Section, Target, Accepts, WasAccepted, AcceptedIn, SectionStands, TargetStands, HoldsAt, GradeAt, GradeOfStretch, GradeAhead, target_place, steepest, slope, announce, withdraw, sample, release}
-use Rattle.history.specs.Lines.{last_phase}
-use Rattle.history.specs.Step.{State, Stepped, Ground, start, step, does, decide, first, grounds, least_grade, unfit_grade, begins_at, numbered, without}
+use Rattle.history.specs.History.{History, Section, Target, Accepts, SectionStands, TargetStands, GradeAt, GradeAhead, target_place, steepest, slope, announce, withdraw, sample}
+use Rattle.history.specs.Step.{State, Ground, start, step, does, decide, first, grounds, least_grade, unfit_grade, begins_at, numbered}
 use Rattle.history.specs.Runs.{entry_of}
 use Rattle.history.specs.Agrees.{Tracks}
 use Rattle.history.proofs.Splits.{last_push, accepted_more, accepted_new, accepted_cases, accepted_none, stands_more, stands_new, stands_cases, stands_none}

@@ -1,5 +1,5 @@
 -- What a zone says of the exact distances, by a lawful meaning, and of the phase after it.
-use Rattle.std.proofs.Common.{◌≡◌, ℕ, ◌+◌, ◌*◌, ◌<◌, ◌≤◌, max, Bool, true, false, cond, ◌||◌, ltb, leb, ◌⊎◌, List, [], ◌∷◌, sym, refl, ap, ◌∙◌, subst, inl, inr, mul-le-mul_right, add-mul, arith}
+use Rattle.std.proofs.Common.{◌≡◌, ℕ, ◌+◌, ◌*◌, ◌<◌, ◌≤◌, max, true, false, cond, ltb, leb, List, [], ◌∷◌, sym, refl, ap, ◌∙◌, inl, inr, mul-le-mul_right, add-mul, arith}
 use Rattle.std.proofs.lemmas.Bool.{cases_lt, cond_both, ltb-true, ltb-false, le-leb, lt-leb, lt-ltb, le-ltb}
 use Rattle.place_list.specs.Membership.{In}
 use Rattle.braking.specs.Laws.{Sound}
@@ -34,7 +34,7 @@ beyond place front c u up l = let m : (front + c + 1) * u ≤ place * u = mul-le
 pub must_control : (v : Verdict) (front place : ℕ) → Sound v → MustBrake v front place → zone_of v front place ≡ zones.Control
 must_control weak front place s h = refl
 must_control (strong e c) front place s h =
-    let l : place ≤ front + c.control = reach place front c.control e.control.under e.control.over e.control.above (omega (arith, h)) (omega (arith, s.0.at_least_lem)) in
+    let l : place ≤ front + c.control = reach place front c.control e.control.under e.control.over e.control.above (omega (arith, h)) (omega (arith, s.0.at_least)) in
     let t : leb place (front + c.control) ≡ true = le-leb place (front + c.control) l in
     rw t
 
@@ -66,7 +66,7 @@ clear_clear (strong e c) front place s h =
     elim (cases_lt (front + c.nominal) place) [
       | inl lt ↦
           let m : front * e.nominal.under + c.nominal * e.nominal.under < place * e.nominal.under = beyond place front c.nominal e.nominal.under e.nominal.above lt in
-          omega (arith, s.2.at_least_lem)
+          omega (arith, s.2.at_least)
       | inr le ↦
           let t : leb place (front + c.nominal) ≡ true = le-leb place (front + c.nominal) le in
           let some : zone_of (strong e c) front place ≡ zones.Clear → ⊥ =

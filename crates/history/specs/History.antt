@@ -1,5 +1,5 @@
 -- What was called and answered, and what stands by it: by the entries alone, with no list of the program's.
-use Rattle.std.specs.Prelude.{◌≡◌, ℕ, ◌+◌, ◌-◌, ◌*◌, ◌<◌, ◌≤◌, ◌⊎◌, List, [], ◌∷◌, ◌++◌, ℤ, pos, negsuc, ◌≤ℤ◌}
+use Rattle.std.specs.Prelude.{◌≡◌, ℕ, ◌+◌, ◌-◌, ◌*◌, ◌<◌, ◌≤◌, ◌⊎◌, List, ◌∷◌, ◌++◌, ℤ, negsuc, ◌≤ℤ◌}
 use Rattle.units.specs.Rounding.{ceiling}
 use Rattle.braking.specs.Meaning.{Question, Binds}
 use Rattle.calls.specs.declared.answer.Answer.{Answer}

@@ -128,8 +128,8 @@ pub record Ground : Type 0 where
   pub holds : Bool
   pub refusal : Refusal
 
-abbrev pub ground : Bool → Refusal → Ground
-ground b r = record { holds = b; refusal = r }
+abbrev pub ground_for : Bool → Refusal → Ground
+ground_for b r = record { holds = b; refusal = r }
 
 -- The first ground that holds.
 abbrev pub first : List Ground → Option Refusal
@@ -139,20 +139,20 @@ first (g ∷ gs) = cond g.holds (Some g.refusal) (first gs)
 -- The grounds on which a call is refused, in the order of their numbers.
 abbrev pub grounds : Meaning → State → Call → List Ground
 grounds m s (Slope p g) =
-    ground (nat_lt furthest p.millimetres) PlaceOutOfLimits
-    ∷ ground (unfit_grade g.thousandths) GradeOutOfLimits
-    ∷ ground (begins_at p.millimetres s.sections) Taken
-    ∷ ground (s.section_room == 0) Full ∷ []
+    ground_for (nat_lt furthest p.millimetres) PlaceOutOfLimits
+    ∷ ground_for (unfit_grade g.thousandths) GradeOutOfLimits
+    ∷ ground_for (begins_at p.millimetres s.sections) Taken
+    ∷ ground_for (s.section_room == 0) Full ∷ []
 grounds m s (Announce n p d v) =
-    ground ((nat_lt furthest p.millimetres || nat_lt furthest d.millimetres) || nat_lt furthest (p.millimetres + d.millimetres)) PlaceOutOfLimits
-    ∷ ground (nat_lt m.top v.tenths) TooFast
-    ∷ ground (numbered n s.targets) Taken
-    ∷ ground (s.target_room == 0) Full ∷ []
-grounds m s (Withdraw n) = ground (not (numbered n s.targets)) Taken ∷ []
+    ground_for ((nat_lt furthest p.millimetres || nat_lt furthest d.millimetres) || nat_lt furthest (p.millimetres + d.millimetres)) PlaceOutOfLimits
+    ∷ ground_for (nat_lt m.top v.tenths) TooFast
+    ∷ ground_for (numbered n s.targets) Taken
+    ∷ ground_for (s.target_room == 0) Full ∷ []
+grounds m s (Withdraw n) = ground_for (not (numbered n s.targets)) Taken ∷ []
 grounds m s (Sample p v) =
-    ground (nat_lt furthest p.millimetres) PlaceOutOfLimits
-    ∷ ground (nat_lt fastest v.tenths) TooFast ∷ []
-grounds m s Release = ground (not (releasable s.phase s.clear)) NotReleasable ∷ []
+    ground_for (nat_lt furthest p.millimetres) PlaceOutOfLimits
+    ∷ ground_for (nat_lt fastest v.tenths) TooFast ∷ []
+grounds m s Release = ground_for (not (releasable s.phase s.clear)) NotReleasable ∷ []
 
 -- What a step answers, and the state after it.
 pub record Stepped : Type 0 where

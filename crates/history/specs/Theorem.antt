@@ -1,5 +1,5 @@
 -- What is proved of every run.
-use Rattle.std.specs.Prelude.{◌≡◌, ℕ, List, [], ◌∷◌, ◌++◌}
+use Rattle.std.specs.Prelude.{ℕ, List, [], ◌∷◌, ◌++◌}
 use Rattle.braking.specs.Laws.{Lawful}
 use Rattle.braking.specs.Meaning.{Meaning}
 use Rattle.calls.specs.declared.call.Call.{Call}

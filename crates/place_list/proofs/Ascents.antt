@@ -1,6 +1,6 @@
 -- Ascending places: read by index, and kept where an item is copied over its neighbour.
 use Rattle.std.proofs.Common.{◌≡◌, ℕ, zero, suc, ◌+◌, ◌<◌, ◌≤◌, true, leb, List, [], ◌∷◌, length, get_or, take, set, sym, refl, ap, ◌∙◌, subst, add-one, arith}
-use Rattle.std.specs.List.{remove, AllByRecursion as All}
+use Rattle.std.specs.List.{remove, AllByRecursion}
 use Rattle.std.proofs.lemmas.List.{get_or-take, length-take-le}
 use Rattle.std.proofs.lemmas.Bool.{and_parts, and_from, leb-true, le-leb}
 use Rattle.place_list.specs.Order.{ascends, ascends_from, Ascending}
@@ -41,7 +41,7 @@ pub ascending : {X : Type 0} (place : X → ℕ) (xs : List X) → ascends place
 ascending place xs h d i j l m = climbs_pair place 0 xs d i j (climbs place 0 xs h) l m
 
 -- Up to an item whose place is not greater than b, no place is.
-pub all_up_to : {X : Type 0} (place : X → ℕ) (p b : ℕ) (xs : List X) (d : X) (j : ℕ) → Climbs place p xs → j < length xs → place (get_or xs j d) ≤ b → All (λ y. place y ≤ b) (take (suc j) xs)
+pub all_up_to : {X : Type 0} (place : X → ℕ) (p b : ℕ) (xs : List X) (d : X) (j : ℕ) → Climbs place p xs → j < length xs → place (get_or xs j d) ≤ b → AllByRecursion (λ y. place y ≤ b) (take (suc j) xs)
 all_up_to place p b [] d j h l m = absurd (omega arith)
 all_up_to place p b (x ∷ xs) d zero h l m = (m, tt)
 all_up_to place p b (x ∷ xs) d (suc j) h l m =

@@ -1,6 +1,6 @@
 -- Putting an item in moves a gap from the end of the items to where it is to stand, and fills it.
 use Rattle.std.proofs.Common.{◌≡◌, ℕ, zero, suc, ◌+◌, ◌-◌, ◌<◌, ◌≤◌, true, List, [], ◌∷◌, ◌++◌, length, get_or, take, drop, set, sym, refl, ap, ◌∙◌, subst, add-one, arith}
-use Rattle.std.specs.List.{AllByRecursion as All}
+use Rattle.std.specs.List.{AllByRecursion}
 use Rattle.std.proofs.ByRecursion.{All-from_get_or}
 use Rattle.std.proofs.lemmas.List.{append_assoc, drop_all, drop_at, drop_more, drop-set, get_or-drop, get_or-take, length-append, length-drop, length-take-le, set_split, take-append-drop, take_at, take-set-le, take-take}
 use Rattle.place_list.specs.Insertion.{PutIn}
@@ -63,13 +63,13 @@ filled_rest {X} x n i memory old l m same gap =
     ap (drop (n + 1)) (gap_filled x n i memory old l m same gap) ∙ drop_at _ (drop (n + 1) old) (n + 1) (length_filled x n i old l (omega arith))
 
 -- Where the item before the index is not greater, none before it is.
-none_greater : {X : Type 0} (place : X → ℕ) (p i : ℕ) (items : List X) (d : X) → i ≤ length items → NotGreaterBefore place p i items → ascends place items ≡ true → All (λ z. place z ≤ p) (take i items)
+none_greater : {X : Type 0} (place : X → ℕ) (p i : ℕ) (items : List X) (d : X) → i ≤ length items → NotGreaterBefore place p i items → ascends place items ≡ true → AllByRecursion (λ z. place z ≤ p) (take i items)
 none_greater place p zero items d l before h = tt
 none_greater {X} place p (suc j) items d l before h =
     let one : suc j - 1 ≡ j = omega arith in
     all_up_to place 0 p items d j (climbs place 0 items h) (omega arith) (subst (λ (k : ℕ). place (get_or items k d) ≤ p) one (before d (omega arith)))
 
-all_greater : {X : Type 0} (place : X → ℕ) (p i : ℕ) (items : List X) (d : X) → i ≤ length items → GreaterFrom place p i items → All (λ z. p < place z) (drop i items)
+all_greater : {X : Type 0} (place : X → ℕ) (p i : ℕ) (items : List X) (d : X) → i ≤ length items → GreaterFrom place p i items → AllByRecursion (λ z. p < place z) (drop i items)
 all_greater {X} place p i items d l behind =
     let some : length (drop i items) ≡ length items - i = length-drop i items in
     All-from_get_or (λ z. p < place z) (drop i items) d

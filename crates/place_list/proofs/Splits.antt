@@ -1,6 +1,6 @@
 -- What follows where an item is put in behind those whose place is not greater.
-use Rattle.std.proofs.Common.{◌≡◌, ℕ, ◌+◌, ◌<◌, ◌≤◌, true, false, cond, eqb, ltb, List, [], ◌∷◌, ◌++◌, sym, refl, ap, ◌∙◌, subst, arith}
-use Rattle.std.specs.List.{AllByRecursion as All}
+use Rattle.std.proofs.Common.{◌≡◌, ℕ, ◌<◌, ◌≤◌, true, false, cond, eqb, ltb, List, [], ◌∷◌, ◌++◌, sym, refl, ap, ◌∙◌, subst, arith}
+use Rattle.std.specs.List.{AllByRecursion}
 use Rattle.std.proofs.lemmas.List.Elements.{filter-append}
 use Rattle.std.proofs.lemmas.List.{append-nil, append_assoc}
 use Rattle.std.proofs.lemmas.Bool.{cond-true, cond-false, lt-ltb, le-ltb, eqb-true, ne_eqb}
@@ -8,7 +8,7 @@ use Rattle.place_list.specs.Insertion.{ComesLast, PutIn, placed_in}
 use Rattle.place_list.specs.Order.{ascends, at_place}
 use Rattle.place_list.proofs.Ascents.{Climbs, climbs, ascends_is}
 
-placed_between : {X : Type 0} (place : X → ℕ) (x : X) (before behind : List X) → All (λ y. place y ≤ place x) before → All (λ y. place x < place y) behind → placed_in place x (before ++ behind) ≡ before ++ x ∷ behind
+placed_between : {X : Type 0} (place : X → ℕ) (x : X) (before behind : List X) → AllByRecursion (λ y. place y ≤ place x) before → AllByRecursion (λ y. place x < place y) behind → placed_in place x (before ++ behind) ≡ before ++ x ∷ behind
 placed_between place x [] [] h k = refl
 placed_between place x [] (y ∷ ys) h k = cond-true (ltb (place x) (place y)) _ _ (lt-ltb (place x) (place y) k.0)
 placed_between place x (y ∷ ys) behind h k =
@@ -19,11 +19,11 @@ pub put_in_is : {X : Type 0} (place : X → ℕ) (x : X) (old new : List X) → 
 put_in_is place x old new s =
     s.new_is ∙ (sym (placed_between place x s.before s.behind s.not_greater s.greater) ∙ ap (placed_in place x) (sym s.old_is))
 
-climbs_raise : {X : Type 0} (place : X → ℕ) (p b : ℕ) (ys : List X) → Climbs place p ys → All (λ y. b < place y) ys → Climbs place b ys
+climbs_raise : {X : Type 0} (place : X → ℕ) (p b : ℕ) (ys : List X) → Climbs place p ys → AllByRecursion (λ y. b < place y) ys → Climbs place b ys
 climbs_raise place p b [] h k = tt
 climbs_raise place p b (y ∷ ys) h k = (omega (arith, k.0), h.1)
 
-climbs_between : {X : Type 0} (place : X → ℕ) (p : ℕ) (x : X) (before behind : List X) → p ≤ place x → Climbs place p (before ++ behind) → All (λ y. place y ≤ place x) before → All (λ y. place x < place y) behind → Climbs place p (before ++ x ∷ behind)
+climbs_between : {X : Type 0} (place : X → ℕ) (p : ℕ) (x : X) (before behind : List X) → p ≤ place x → Climbs place p (before ++ behind) → AllByRecursion (λ y. place y ≤ place x) before → AllByRecursion (λ y. place x < place y) behind → Climbs place p (before ++ x ∷ behind)
 climbs_between place p x [] behind l h a b = (l, climbs_raise place p (place x) behind h b)
 climbs_between place p x (y ∷ ys) behind l h a b = (h.0, climbs_between place (place y) x ys behind a.0 h.1 a.1 b)
 
@@ -33,13 +33,13 @@ ascends_put_in place x old new s h =
     let old-climbs : Climbs place 0 (s.before ++ s.behind) = climbs place 0 _ (ap (ascends place) (sym s.old_is) ∙ h) in
     ap (ascends place) s.new_is ∙ ascends_is place 0 _ (climbs_between place 0 x s.before s.behind (omega arith) old-climbs s.not_greater s.greater)
 
-none_at : {X : Type 0} (place : X → ℕ) (p : ℕ) (ys : List X) → All (λ y. p < place y) ys → at_place place p ys ≡ []
+none_at : {X : Type 0} (place : X → ℕ) (p : ℕ) (ys : List X) → AllByRecursion (λ y. p < place y) ys → at_place place p ys ≡ []
 none_at place p [] k = refl
 none_at place p (y ∷ ys) k =
     cond-false (eqb (place y) p) _ _ (ne_eqb (place y) p (λ e. omega (arith, k.0))) ∙ none_at place p ys k.1
 
 -- At its own place the item is the last; at any other place nothing changes.
-last_there : {X : Type 0} (place : X → ℕ) (x : X) (behind : List X) (p : ℕ) → All (λ y. place x < place y) behind → at_place place p (x ∷ behind) ≡ at_place place p behind ++ at_place place p (x ∷ [])
+last_there : {X : Type 0} (place : X → ℕ) (x : X) (behind : List X) (p : ℕ) → AllByRecursion (λ y. place x < place y) behind → at_place place p (x ∷ behind) ≡ at_place place p behind ++ at_place place p (x ∷ [])
 last_there {X} place x behind p k =
     elim (eqb (place x) p) as (λ v. eqb (place x) p ≡ v → cond v (x ∷ at_place place p behind) (at_place place p behind) ≡ at_place place p behind ++ cond v (x ∷ []) []) [
       | true ↦ λ e.

@@ -1,6 +1,6 @@
 -- Where an inserted item stands: behind the last one whose place is not greater.
 use Rattle.std.specs.Prelude.{◌≡◌, ℕ, ◌<◌, ◌≤◌, cond, List, [], ◌∷◌, ◌++◌, nat_lt}
-use Rattle.std.specs.List.{AllByRecursion as All}
+use Rattle.std.specs.List.{AllByRecursion}
 use Rattle.place_list.specs.Order.{at_place}
 
 -- The sequence with x before the first item of a greater place.
@@ -15,8 +15,8 @@ pub record PutIn {X : Type 0} (place : X → ℕ) (x : X) (old new : List X) : T
   pub behind : List X
   pub old_is : old ≡ before ++ behind
   pub new_is : new ≡ before ++ x ∷ behind
-  pub not_greater : All (λ y. place y ≤ place x) before
-  pub greater : All (λ y. place x < place y) behind
+  pub not_greater : AllByRecursion (λ y. place y ≤ place x) before
+  pub greater : AllByRecursion (λ y. place x < place y) behind
 
 -- At every place the items stand in the order in which they came: x is the last at its place, and the others are as before.
 abbrev pub ComesLast : {X : Type 0} → (X → ℕ) → X → List X → List X → Type 0

@@ -1,10 +1,9 @@
 -- What is found, put in and taken out of a list, seen as sections or targets over plain numbers.
-use Rattle.std.proofs.Common.{◌≡◌, ℕ, zero, suc, ◌+◌, ◌-◌, ◌<◌, Bool, true, false, cond, not, ◌||◌, eqb, ltb, List, [], ◌∷◌, ◌++◌, map, length, get_or, take, drop, ℤ, Some, None, sym, refl, ap, ◌∙◌, subst, inl, inr, arith}
+use Rattle.std.proofs.Common.{◌≡◌, ℕ, zero, suc, ◌+◌, ◌-◌, ◌<◌, Bool, true, false, cond, not, ◌||◌, eqb, ltb, List, [], ◌∷◌, map, ℤ, Some, None, refl, ap, ◌∙◌, inl, inr, arith}
 use Rattle.std.specs.List.{remove}
-use Rattle.std.proofs.lemmas.Bool.{cond_both, eq-eqb, ne_eqb}
+use Rattle.std.proofs.lemmas.Bool.{eq-eqb, ne_eqb}
 use Rattle.place_list.specs.Finding.{FirstAt, Found}
 use Rattle.place_list.specs.Insertion.{placed_in}
-use Rattle.place_list.specs.Membership.{In}
 use Rattle.place_list.specs.Places.{place_of}
 use Rattle.place_list.specs.Sequence.{Kept, Unaltered, room, sequence}
 use Rattle.place_list.specs.declared.list.PlaceList.{PlaceList}
@@ -12,7 +11,7 @@ use Rattle.place_list.specs.declared.placed.Placed.{Placed}
 use Rattle.units.specs.declared.quantities.Grade.{Grade}
 use Rattle.calls.specs.declared.refusal.Refusal.TheVariants.{Taken, Full}
 use Rattle.history.specs.History.{Section, Target}
-use Rattle.history.specs.Step.{begins_at, first, ground, marked, numbered, without}
+use Rattle.history.specs.Step.{begins_at, first, ground_for, marked, numbered, without}
 use Rattle.zones.specs.Items.{section_of, target_of}
 use Rattle.zones.specs.declared.target.Target.{Target as TargetItem}
 use Rattle.supervision.specs.Lists.{section_grounds, sections_of, target_grounds, targets_of}
@@ -116,10 +115,10 @@ module _ (l : PlaceList TargetItem) (n : ℕ) where
       let r : eqb (room l) 0 ≡ false = ne_eqb (room l) 0 (λ k. omega arith) in
       rw (b, r)
 
-  pub target_stands : (i : ℕ) → FirstAt number_of n (sequence l) i → first (ground (not (numbered n (targets_of l))) Taken ∷ []) ≡ None
+  pub target_stands : (i : ℕ) → FirstAt number_of n (sequence l) i → first (ground_for (not (numbered n (targets_of l))) Taken ∷ []) ≡ None
   target_stands i h = let b : numbered n (targets_of l) ≡ true = numbers true (first_marked number_of n (sequence l) i h) in rw b
 
-  pub target_missing : Found number_of n (sequence l) None → first (ground (not (numbered n (targets_of l))) Taken ∷ []) ≡ Some Taken
+  pub target_missing : Found number_of n (sequence l) None → first (ground_for (not (numbered n (targets_of l))) Taken ∷ []) ≡ Some Taken
   target_missing h = let b : numbered n (targets_of l) ≡ false = numbers false (none_marked number_of n (sequence l) h) in rw b
 
 pub target_out : (before after : PlaceList TargetItem) (n i : ℕ) → FirstAt number_of n (sequence before) i → sequence after ≡ remove (sequence before) i → targets_of after ≡ without n (targets_of before)

@@ -4,7 +4,7 @@ use Rattle.units.specs.declared.quantities.Grade.{Grade}
 use Rattle.braking.specs.Laws.{Lawful}
 use Rattle.braking.specs.Meaning.{Meaning}
 use Rattle.calls.specs.declared.answer.Answer.{Answer}
-use Rattle.calls.specs.declared.answer.Answer.TheVariants.{Accepted, Sampled, Refused}
+use Rattle.calls.specs.declared.answer.Answer.TheVariants.{Refused}
 use Rattle.calls.specs.declared.call.Call.{Call}
 use Rattle.calls.specs.declared.call.Call.TheVariants.{Slope, Announce, Withdraw, Sample, Release}
 use Rattle.calls.specs.declared.phase.Phase.{Phase}
@@ -15,7 +15,7 @@ use Rattle.calls.specs.declared.refusal.Refusal.TheVariants.{NotReleasable}
 use Rattle.history.specs.History.{History, Section, Target}
 use Rattle.history.specs.Lines.{KeepsTheLines}
 use Rattle.history.specs.Runs.{Led, entry_of}
-use Rattle.history.specs.Step.{Ground, State, decide, does, first, ground, grounds, releasable, step}
+use Rattle.history.specs.Step.{Ground, State, decide, does, first, ground_for, grounds, releasable, step}
 use Rattle.history.proofs.Runs.{every_step, led_start}
 use Rattle.place_list.specs.Sequence.{Kept, Unaltered, room}
 use Rattle.place_list.specs.declared.list.PlaceList.{PlaceList}
@@ -126,8 +126,8 @@ opened meaning m xs ts p c e f =
     subst (λ (s : State). Led (eps_of m) (meaning m.model) [] s) (sym (same_state e refl f refl p c)) (led_start (eps_of m) (meaning m.model) (room xs) (room ts))
 
 -- Whether the emergency brake may be let go.
-pub let_go : (p : Phase) (b : Bool) → releasable p b ≡ true → first (ground (not (releasable p b)) NotReleasable ∷ []) ≡ None
+pub let_go : (p : Phase) (b : Bool) → releasable p b ≡ true → first (ground_for (not (releasable p b)) NotReleasable ∷ []) ≡ None
 let_go p b e = rw e
 
-pub not_let_go : (p : Phase) (b : Bool) → releasable p b ≡ false → first (ground (not (releasable p b)) NotReleasable ∷ []) ≡ Some NotReleasable
+pub not_let_go : (p : Phase) (b : Bool) → releasable p b ≡ false → first (ground_for (not (releasable p b)) NotReleasable ∷ []) ≡ Some NotReleasable
 not_let_go p b e = rw e

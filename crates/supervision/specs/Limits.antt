@@ -4,7 +4,7 @@ use Rattle.units.specs.declared.quantities.Distance.{Distance}
 use Rattle.calls.specs.declared.refusal.Refusal.{Refusal}
 use Rattle.calls.specs.declared.refusal.Refusal.TheVariants.{PlaceOutOfLimits, TooFast, GradeOutOfLimits}
 use Rattle.history.specs.History.{target_place}
-use Rattle.history.specs.Step.{Ground, fastest, first, furthest, ground, unfit_grade}
+use Rattle.history.specs.Step.{Ground, fastest, first, furthest, ground_for, unfit_grade}
 
 -- The refusal in a result, if there is one.
 abbrev pub refusal_in : {X : Type 0} → Result X Refusal → Option Refusal
@@ -12,14 +12,14 @@ refusal_in (Ok _) = None
 refusal_in (Err r) = Some r
 
 abbrev pub slope_limits : (place : ℕ) (grade : ℤ) → List Ground
-slope_limits place grade = ground (nat_lt furthest place) PlaceOutOfLimits ∷ ground (unfit_grade grade) GradeOutOfLimits ∷ []
+slope_limits place grade = ground_for (nat_lt furthest place) PlaceOutOfLimits ∷ ground_for (unfit_grade grade) GradeOutOfLimits ∷ []
 
 abbrev pub sample_limits : (place speed : ℕ) → List Ground
-sample_limits place speed = ground (nat_lt furthest place) PlaceOutOfLimits ∷ ground (nat_lt fastest speed) TooFast ∷ []
+sample_limits place speed = ground_for (nat_lt furthest place) PlaceOutOfLimits ∷ ground_for (nat_lt fastest speed) TooFast ∷ []
 
 abbrev pub announce_limits : (top point distance speed : ℕ) → List Ground
 announce_limits top point distance speed =
-    ground ((nat_lt furthest point || nat_lt furthest distance) || nat_lt furthest (point + distance)) PlaceOutOfLimits ∷ ground (nat_lt top speed) TooFast ∷ []
+    ground_for ((nat_lt furthest point || nat_lt furthest distance) || nat_lt furthest (point + distance)) PlaceOutOfLimits ∷ ground_for (nat_lt top speed) TooFast ∷ []
 
 -- Where an announced target stands, if it is within limits.
 abbrev pub Announced : (eps top point distance speed : ℕ) → Result Distance Refusal → Type 0

@@ -4,7 +4,7 @@ use Rattle.units.specs.declared.quantities.Grade.{Grade}
 use Rattle.calls.specs.declared.refusal.Refusal.{Refusal}
 use Rattle.calls.specs.declared.refusal.Refusal.TheVariants.{Taken, Full}
 use Rattle.history.specs.History.{Section, Target}
-use Rattle.history.specs.Step.{Ground, begins_at, first, ground, numbered, without}
+use Rattle.history.specs.Step.{Ground, begins_at, first, ground_for, numbered, without}
 use Rattle.place_list.specs.Insertion.{placed_in}
 use Rattle.place_list.specs.Sequence.{Kept, Unaltered, room, sequence}
 use Rattle.place_list.specs.declared.list.PlaceList.{PlaceList}
@@ -20,7 +20,7 @@ targets_of l = targets_in (sequence l)
 
 -- The section is there where nothing stands in the way, and else nothing is altered.
 abbrev pub section_grounds : (place : ℕ) → PlaceList Grade → List Ground
-section_grounds place l = ground (begins_at place (sections_of l)) Taken ∷ ground (room l == 0) Full ∷ []
+section_grounds place l = ground_for (begins_at place (sections_of l)) Taken ∷ ground_for (room l == 0) Full ∷ []
 
 abbrev pub SectionAdded : (place : ℕ) (grade : ℤ) (before after : PlaceList Grade) → Result (Unit {0}) Refusal → Type 0
 SectionAdded place grade before after (Ok _) =
@@ -32,7 +32,7 @@ SectionAdded place grade before after (Err e) = (first (section_grounds place be
 
 -- So it is with a target.
 abbrev pub target_grounds : (number : ℕ) → PlaceList TargetItem → List Ground
-target_grounds number l = ground (numbered number (targets_of l)) Taken ∷ ground (room l == 0) Full ∷ []
+target_grounds number l = ground_for (numbered number (targets_of l)) Taken ∷ ground_for (room l == 0) Full ∷ []
 
 abbrev pub TargetAdded : (number place speed : ℕ) (before after : PlaceList TargetItem) → Result (Unit {0}) Refusal → Type 0
 TargetAdded number place speed before after (Ok _) =
@@ -45,9 +45,9 @@ TargetAdded number place speed before after (Err e) = (first (target_grounds num
 -- The target is gone where it stood, and else nothing is altered.
 abbrev pub TargetTakenOut : (number : ℕ) (before after : PlaceList TargetItem) → Result (Unit {0}) Refusal → Type 0
 TargetTakenOut number before after (Ok _) =
-    (first (ground (not (numbered number (targets_of before))) Taken ∷ []) ≡ None)
+    (first (ground_for (not (numbered number (targets_of before))) Taken ∷ []) ≡ None)
     × (targets_of after ≡ without number (targets_of before))
     × (room after ≡ room before + 1)
     × Kept before after
 TargetTakenOut number before after (Err e) =
-    (first (ground (not (numbered number (targets_of before))) Taken ∷ []) ≡ Some e) × Unaltered before after × Kept before after
+    (first (ground_for (not (numbered number (targets_of before))) Taken ∷ []) ≡ Some e) × Unaltered before after × Kept before after

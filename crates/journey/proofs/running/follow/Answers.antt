@@ -12,9 +12,9 @@ use Rattle.journey.proofs.running.follow.Goals as goal
 pub loop-call-init : goal.loop-call-init
 loop-call-init g c = follow_start g.M.BrakingModel.meaning c.args.mission.now c.args.sections.now c.args.targets.now (vec_items c.new-records.result) c.new-records.ensures.items
 
-pub returns-in-err-push : goal.returns-in-err-push
-returns-in-err-push g c =
-    let p = err_from_is_err_and c.from-residual.result c.from-residual.ensures.1 in
+pub returns-in_err-push : goal.returns-in_err-push
+returns-in_err-push g c =
+    let p = err_from_is_err_and c.from_residual.result c.from_residual.ensures.1 in
     let f = c.loop-call.invariant in
     record { history = rw p.1 tt; sheet = c.apply.ensures.made.sheet ∙ f.sheet; model = c.apply.ensures.made.model ∙ f.model }
 
@@ -22,7 +22,7 @@ pub loop-call-preserved : goal.loop-call-preserved
 loop-call-preserved g c =
     let more : take (c.loop-call.call-index + 1) c.args.calls.now ≡ take c.loop-call.call-index c.args.calls.now ++ get_or c.args.calls.now c.loop-call.call-index (Slope (record { millimetres = 0 }) (record { thousandths = pos 0 })) ∷ [] =
     take_more c.args.calls.now c.loop-call.call-index (Slope (record { millimetres = 0 }) (record { thousandths = pos 0 })) c.loop-call-test.true in
-    let items : vec_items c.push.new.self ≡ vec_items c.loop-call.records ++ c.apply.result ∷ [] = pushed (c.apply.result ∷ []) refl c.in-ok-push.was c.push.ensures.items in
+    let items : vec_items c.push.new.self ≡ vec_items c.loop-call.records ++ c.apply.result ∷ [] = pushed (c.apply.result ∷ []) refl c.in_ok-push.was c.push.ensures.items in
     let next = follow_more g.M.BrakingModel.meaning c.args.mission.now c.loop-call.mission c.apply.new.self c.args.sections.now c.loop-call.sections c.apply.new.sections c.args.targets.now c.loop-call.targets c.apply.new.targets
     (take c.loop-call.call-index c.args.calls.now) (vec_items c.loop-call.records) (get_or c.args.calls.now c.loop-call.call-index (Slope (record { millimetres = 0 }) (record { thousandths = pos 0 }))) c.apply.result
     c.loop-call.invariant c.apply.ensures.call c.apply.ensures.phase c.apply.ensures.made in

@@ -16,9 +16,9 @@ returns g c =
     let room = min 64 (length c.args.sections.now) in
     let space = min 32 (length c.args.targets.now) in
     let o = c.over-mission.ensures in
-    let xs = c.new-sections-section-list.ensures in
-    let ts = c.new-targets-target-list.ensures in
-    let same = opened_run g.M.BrakingModel.meaning c.over-mission.result c.args.sheet c.args.model c.new-sections-section-list.result c.new-targets-target-list.result
+    let xs = c.new_sections-section_list.ensures in
+    let ts = c.new_targets-target_list.ensures in
+    let same = opened_run g.M.BrakingModel.meaning c.over-mission.result c.args.sheet c.args.model c.new_sections-section_list.result c.new_targets-target_list.result
     (min 64 (length c.args.sections.now)) (min 32 (length c.args.targets.now)) c.args.calls.now
     o.sheet o.model o.phase o.clear xs.empty xs.room ts.empty ts.room in
     let history : IfOk c.follow-records.result (λ v. vec_items v ≡ run c.args.sheet.values.eps (g.M.BrakingModel.meaning c.args.model) (start (min 64 (length c.args.sections.now)) (min 32 (length c.args.targets.now))) c.args.calls.now) =

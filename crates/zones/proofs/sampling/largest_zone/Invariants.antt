@@ -1,4 +1,4 @@
-use Rattle.std.proofs.Common.{◌≡◌, ◌≤◌, drop}
+use Rattle.std.proofs.Common.{◌≡◌, drop}
 use Rattle.calls.specs.Zones.{larger_zone}
 use Rattle.history.specs.Step.{largest_zone}
 use Rattle.zones.specs.Items.{sections_in, targets_in}

@@ -1,4 +1,4 @@
-use Rattle.std.proofs.Common.{◌≡◌, sym, ◌∙◌}
+use Rattle.std.proofs.Common.{sym, ◌∙◌}
 use Rattle.zones.proofs.Least.{goes_on, ends, done}
 use Rattle.zones.proofs.stretch.grade_ahead.Goals as goal
 

@@ -9,8 +9,8 @@ pub loop-i-init : goal.loop-i-init
 loop-i-init g c =
     (refl, refl, refl, refl, closed_none c.args.self.now.len c.args.at c.args.self.now.memory.now c.requires c.args.self.now.within)
 
-pub invariant-of-self : goal.invariant-of-self
-invariant-of-self g c =
+pub invariant_of-self : goal.invariant_of-self
+invariant_of-self g c =
     let memory = c.loop-i.self.memory.now in
     let i = c.loop-i.i in
     let d = c.index-self-i.result in
@@ -20,7 +20,11 @@ invariant-of-self g c =
     let count : n ≡ c.args.self.now.len = c.loop-i.invariant.0 in
     let within : n ≤ length memory = c.loop-i.self.within in
     let same : length (set memory i y) ≡ length memory = length-set memory i y in
-    (omega arith, (c.loop-i.self.allowed, (ascends_over_previous place_of n i memory y (omega arith) within (get_or_default memory (i + 1) d y (omega arith)) c.loop-i.self.ascending, tt)))
+    record {
+      within = omega arith;
+      allowed = c.loop-i.self.allowed;
+      ascending = ascends_over_previous place_of n i memory y (omega arith) within (get_or_default memory (i + 1) d y (omega arith)) c.loop-i.self.ascending;
+    }
 
 pub loop-i-preserved : goal.loop-i-preserved
 loop-i-preserved g c =
@@ -41,8 +45,8 @@ loop-i-preserved g c =
       closed_more n c.args.at i memory old y c.loop-i.auto.i (omega arith) within same (get_or_default memory (i + 1) d y (omega arith)) v.4,
     )
 
-pub invariant-of-self-2 : goal.invariant-of-self-2
-invariant-of-self-2 g c =
+pub invariant_of-self-2 : goal.invariant_of-self-2
+invariant_of-self-2 g c =
     let memory = c.loop-i.self.memory.now in
     let old = c.args.self.now.memory.now in
     let n = c.args.self.now.len in
@@ -54,7 +58,11 @@ invariant-of-self-2 g c =
     let within : c.loop-i.self.len ≤ length memory = c.loop-i.self.within in
     let allowed : c.loop-i.self.len ≤ c.loop-i.self.most = c.loop-i.self.allowed in
     let left = closed_all n c.args.at c.loop-i.i (c.loop-i.self.len - 1) memory old some c.args.self.now.within (omega arith) (omega arith) v.4 in
-    (omega arith, (omega arith, (ascends_removed place_of c.args.at (take n old) _ left c.args.self.now.ascending, tt)))
+    record {
+      within = omega arith;
+      allowed = omega arith;
+      ascending = ascends_removed place_of c.args.at (take n old) _ left c.args.self.now.ascending;
+    }
 
 pub returns : goal.returns
 returns g c =

@@ -7,7 +7,7 @@ use Rattle.place_list.proofs.Gaps.{Gap, filled_put_in, filled_rest, gap_more, ga
 use Rattle.place_list.proofs.Members.{one_more}
 use Rattle.place_list.proofs.Splits.{ascends_put_in, comes_last, put_in_is}
 use Rattle.place_list.proofs.list.PlaceList.put_at.Goals as goal
-use Rattle.place_list.proofs.list.PlaceList.put_at.Goals.{After-index-self-at, at·returns}
+use Rattle.place_list.proofs.list.PlaceList.put_at.Goals.{After-index-self-at, at-returns}
 
 pub loop-gap-init : goal.loop-gap-init
 loop-gap-init g c =
@@ -17,8 +17,8 @@ loop-gap-init g c =
     let upto : c.args.at ≤ length (take n old) = c.requires.upto in
     (omega arith, omega arith, refl, refl, refl, refl, gap_none n old c.args.self.now.within)
 
-pub invariant-of-self : goal.invariant-of-self
-invariant-of-self g c =
+pub invariant_of-self : goal.invariant_of-self
+invariant_of-self g c =
     let memory = c.loop-gap.self.memory.now in
     let i = c.loop-gap.gap in
     let d = c.index-self-gap.result in
@@ -28,7 +28,12 @@ invariant-of-self g c =
     let above : c.args.at < i = c.loop-gap-test.true in
     let within : c.loop-gap.self.len ≤ length memory = c.loop-gap.self.within in
     let upto : i ≤ c.loop-gap.self.len = omega (arith, v.1, v.2) in
-    (omega arith, (c.loop-gap.self.allowed, (ascends_over_next place_of c.loop-gap.self.len i (i - 1) memory y (omega arith) (omega arith) (get_or_default memory (i - 1) d y (omega arith)) c.loop-gap.self.ascending, tt)))
+    record {
+      within = omega arith;
+      allowed = c.loop-gap.self.allowed;
+      ascending =
+          ascends_over_next place_of c.loop-gap.self.len i (i - 1) memory y (omega arith) (omega arith) (get_or_default memory (i - 1) d y (omega arith)) c.loop-gap.self.ascending;
+    }
 
 pub loop-gap-preserved : goal.loop-gap-preserved
 loop-gap-preserved g c =
@@ -64,8 +69,8 @@ stands g c =
     let gap : Gap n c.args.at memory old = subst (λ (k : ℕ). Gap n k memory old) there v.6 in
     filled_put_in place_of c.args.new n c.args.at memory old c.requires.upto (omega arith) v.4 c.requires.before c.requires.behind c.args.self.now.ascending gap
 
-pub invariant-of-self-2 : goal.invariant-of-self-2
-invariant-of-self-2 g c =
+pub invariant_of-self-2 : goal.invariant_of-self-2
+invariant_of-self-2 g c =
     let memory = c.loop-gap.self.memory.now in
     let old = c.args.self.now.memory.now in
     let n = c.args.self.now.len in
@@ -76,7 +81,7 @@ invariant-of-self-2 g c =
     let most : c.loop-gap.self.most ≡ c.args.self.now.most = v.3 in
     let whole : length (set memory c.args.at c.args.new) ≡ length memory = length-set memory c.args.at c.args.new in
     let order = ascends_put_in place_of c.args.new _ _ (stands g c) c.args.self.now.ascending in
-    (omega arith, (omega arith, (rw count order, tt)))
+    record { within = omega arith; allowed = omega arith; ascending = rw count order }
 
 pub returns : goal.returns
 returns g c =
@@ -93,7 +98,7 @@ returns g c =
     let upto : at ≤ n = omega (arith, v.0, v.1) in
     let there : c.loop-gap.gap ≡ at = omega (arith, v.0, c.loop-gap-test.false) in
     let gap : Gap n at memory old = subst (λ (k : ℕ). Gap n k memory old) there v.6 in
-    let put : PutIn place_of x (take n old) (take (c.loop-gap.self.len + 1) (set memory at x)) = rw count (stands g (at·returns g c).After-index-self-at) in
+    let put : PutIn place_of x (take n old) (take (c.loop-gap.self.len + 1) (set memory at x)) = rw count (stands g (at-returns g c).After-index-self-at) in
     record {
       result = put_in_is place_of x _ _ put;
       stands = put;

@@ -4,7 +4,7 @@ use Rattle.calls.specs.declared.call.Call.TheVariants.{Release}
 use Rattle.calls.specs.declared.phase.Phase.TheVariants.{Free}
 use Rattle.calls.specs.declared.refusal.Refusal.TheVariants.{NotReleasable}
 use Rattle.supervision.proofs.Items.{kept_list, same_list}
-use Rattle.supervision.proofs.Promises.{accepted, law_of, let_go, not_let_go, refused, same_state}
+use Rattle.supervision.proofs.Promises.{accepted, law_of, let_go, not_let_go, refused}
 use Rattle.supervision.proofs.mission.Mission.release.Goals as goal
 
 pub returns-then-not-releasable : goal.returns-then-not-releasable
