@@ -5,7 +5,7 @@ use lib.Seq.{take-append-add}
 use Rattle.std.specs.List.{between}
 use Rattle.std.proofs.lemmas.List.{drop-drop, get_or-take, get_or-drop, length-append, take-append-drop}
 use Rattle.std.proofs.lemmas.Bool.{cases_lt}
-use Rattle.fields.specs.Fields.{Fits, span_of, value_of, Answers as Fields-answers}
+use Rattle.fields.specs.Fields.{Fits, span_of, value_of, Answers as FieldsAnswers}
 use Rattle.fields.specs.Keys.{Keyed}
 use Rattle.fields.specs.declared.due.Due.{Due}
 use Rattle.fields.specs.declared.field.Field.{Field}
@@ -105,10 +105,10 @@ module _ (k : Key) (line : List ℕ) (at end : ℕ) (e : EndsBehind line at end)
           let first : at < end = e.behind (omega arith) in
           let reach : at + (end - at) ≡ end = omega arith in
           let sign = parted_space (drop end line) (omega (arith, length-drop end line)) e.parted in
-          let zero-on : end + 0 ≡ end = omega arith in
+          let zero_on : end + 0 ≡ end = omega arith in
           inside k behind (end - at) (omega arith) few
           (sym (ap (λ (t : List ℕ). get_or t (end - at) 0) is)
-          ∙ (get_or-drop at line (end - at) 0 ∙ (ap (λ (i : ℕ). get_or line i 0) (reach ∙ sym zero-on) ∙ (sym (get_or-drop end line 0 0) ∙ sign))))
+          ∙ (get_or-drop at line (end - at) 0 ∙ (ap (λ (i : ℕ). get_or line i 0) (reach ∙ sym zero_on) ∙ (sym (get_or-drop end line 0 0) ∙ sign))))
 
       long : length (lead_of k) + 1 ≤ end - at → ⊥
       long many =
@@ -116,11 +116,11 @@ module _ (k : Key) (line : List ℕ) (at end : ℕ) (e : EndsBehind line at end)
           let size : end - at ≡ length (lead_of k) + suc m = omega arith in
           none (take m behind) (ap (take (end - at)) is ∙ (ap (λ (i : ℕ). take i (lead_of k ++ 61 ∷ behind)) size ∙ take-append-add (lead_of k) (61 ∷ behind) (suc m)))
 
-  told : (due : Due) (r : Result Field ValueFault) → due ≡ due_of k → Fields-answers (between at end line) at (lead_of k) due r → BetweenAnswers r
+  told : (due : Due) (r : Result Field ValueFault) → due ≡ due_of k → FieldsAnswers (between at end line) at (lead_of k) due r → BetweenAnswers r
   told due (Ok f) is a = λ s e. subst (λ (t : Span). SpanAnswers k line at (Ok (t, end))) (sym e) (holds (value_of f) a.0, a.1, subst (λ (d : Due). Fits d (value_of f)) is a.3)
   told due (Err (Text t)) is a = a
   told due (Err (OtherKey b)) is a = (a.0, other a.1)
   told due (Err (BadValue b)) is a = (a.0, (a.1.0, end, holds a.1.0 a.1.1, subst (λ (d : Due). Fits d a.1.0 → ⊥) is a.1.2))
 
-  pub spanned : (lead : List ℕ) (due : Due) (r : Result Field ValueFault) → lead ≡ lead_of k → due ≡ due_of k → Fields-answers (between at end line) at lead due r → BetweenAnswers r
-  spanned lead due r named is a = told due r is (subst (λ (l : List ℕ). Fields-answers (between at end line) at l due r) named a)
+  pub spanned : (lead : List ℕ) (due : Due) (r : Result Field ValueFault) → lead ≡ lead_of k → due ≡ due_of k → FieldsAnswers (between at end line) at lead due r → BetweenAnswers r
+  spanned lead due r named is a = told due r is (subst (λ (l : List ℕ). FieldsAnswers (between at end line) at l due r) named a)

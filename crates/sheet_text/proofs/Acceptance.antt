@@ -2,7 +2,7 @@
 use Rattle.std.proofs.Common.{◌≡◌, ℕ, ◌<◌, true, false, List, [], ◌∷◌, ◌++◌, map, length, get_or, drop, Ok, Err, Result, sym, refl, ap, ◌∙◌, subst, append_assoc, append-nil, arith}
 use mathlib.Core.List.{append_cancel_left}
 use Rattle.std.specs.List.{AllByRecursion}
-use Rattle.std.proofs.lemmas.Fmt.{decimal_injective as same-from-decimal}
+use Rattle.std.proofs.lemmas.Fmt.{decimal_injective as same_from_decimal}
 use Rattle.std.proofs.lemmas.List.{get_or_at, length-append}
 use Rattle.std.proofs.lemmas.Bool.{and_parts}
 use Rattle.fields.specs.Keys.{Keyed}
@@ -63,7 +63,7 @@ same_by_key (OfTrain x) y r s t = ap OfTrain (same_service x y t)
 same_by_key (OfBrake x) y r s t = ap OfBrake (same_service x y t)
 same_by_key (OfLfren x) y r s t = ap OfLfren (same_length x y t)
 same_by_key (OfNumber k n) m r s t =
-    ap (OfNumber k) (same-from-decimal n m (let a = small k n r in omega arith) (let b = small k m s in omega arith) t)
+    ap (OfNumber k) (same_from_decimal n m (let a = small k n r in omega arith) (let b = small k m s in omega arith) t)
 
 pub same_entry : (e f : Entry) → Ranged e → Ranged f → key_of f ≡ key_of e → value_text e ≡ value_text f → e ≡ f
 same_entry e f r s is t =

@@ -35,11 +35,11 @@ entry_read text at k e name value line byte is_name is_key is-value ranged begin
     let front : drop at text ≡ full name value ++ begins.behind.0 = in_front (drop at text) name value line begins.behind.0 begins.behind.1 keyed in
     let size = full_length name value in
     let rest = behind_front text (full name value) begins.behind.0 at front (omega arith) in
-    let is-text : full name value ≡ line_text e = ap (λ (n : List ℕ). full n value) (is_name ∙ sym (ap name_of is_key)) ∙ ap (full (name_of (key_of e))) is-value in
+    let is_text : full name value ≡ line_text e = ap (λ (n : List ℕ). full n value) (is_name ∙ sym (ap name_of is_key)) ∙ ap (full (name_of (key_of e))) is-value in
     let next : byte + length value + 1 ≡ at + length (full name value) = omega arith in (
       is_key,
       ranged,
-      next ∙ ap (λ (t : List ℕ). at + length t) is-text,
+      next ∙ ap (λ (t : List ℕ). at + length t) is_text,
       omega (arith, rest.0),
-      front ∙ (ap (λ (t : List ℕ). full name value ++ t) (rest.1 ∙ ap (λ (n : ℕ). drop n text) (sym next)) ∙ ap (λ (t : List ℕ). t ++ drop (byte + length value + 1) text) is-text),
+      front ∙ (ap (λ (t : List ℕ). full name value ++ t) (rest.1 ∙ ap (λ (n : ℕ). drop n text) (sym next)) ∙ ap (λ (t : List ℕ). t ++ drop (byte + length value + 1) text) is_text),
     )

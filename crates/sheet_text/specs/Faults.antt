@@ -1,19 +1,19 @@
 -- The number, the byte and the layer of each fault of a sheet.
 use Rattle.std.specs.Prelude.{ℕ, List, codes}
-use Rattle.fields.specs.Faults.{number as number-below, fault_byte as byte-below}
+use Rattle.fields.specs.Faults.{number as number_below, fault_byte as byte_below}
 use Rattle.sheet_text.specs.declared.faults.SheetFault.{SheetFault}
 use Rattle.sheet_text.specs.declared.faults.SheetFault.TheVariants.{Value, OutOfRange, LeftOver, GoodsBrake}
 use Rattle.sheet_text.specs.declared.layer.Layer.{Layer}
 use Rattle.sheet_text.specs.declared.layer.Layer.TheVariants.{Text as TextLayer, Value as ValueLayer, Sheet as SheetLayer}
 
 abbrev pub number : SheetFault → ℕ
-number (Value f) = number-below f
+number (Value f) = number_below f
 number (OutOfRange b) = 4
 number (LeftOver b) = 5
 number GoodsBrake = 6
 
 abbrev pub fault_byte : SheetFault → ℕ
-fault_byte (Value f) = byte-below f
+fault_byte (Value f) = byte_below f
 fault_byte (OutOfRange b) = b
 fault_byte (LeftOver b) = b
 fault_byte GoodsBrake = 0
