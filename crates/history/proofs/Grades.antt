@@ -4,6 +4,7 @@ use lib.Signed.{lt_z, ≤ℤ_refl}
 use Rattle.std.specs.Int.{int_min}
 use Rattle.std.proofs.lemmas.Int.{ints, clamps}
 use Rattle.std.proofs.lemmas.Bool.{cases_lt, le-leb, lt-leb, cond_both, leb-true, leb-false}
+use Rattle.std.proofs.lemmas.Bool.Decides.{nat_tests}
 use Rattle.place_list.specs.Membership.{In}
 use Rattle.history.specs.History.{Section}
 use Rattle.history.specs.Step.{least_grade, unfit_grade}
@@ -88,19 +89,14 @@ falls : (a d : ℤ) (front place q : ℕ) (xs : List Section) → front ≤ q �
 falls a d front place q [] f k l = (≤ℤ_refl a, λ p m. l)
 falls a d front place q (x ∷ xs) f k l =
     let n : leb x.place front ≡ false = lt-leb x.place front (omega (arith, k.0)) in
-    elim (cases_lt place x.place) [
-      | inl beyond ↦
-          let g : leb x.place place ≡ false = lt-leb x.place place beyond in
-          (rw (n, g) (≤ℤ_refl a), λ p m. let h : leb x.place p ≡ false = lt-leb x.place p (omega arith) in rw (n, g, h) l)
-      | inr within ↦
-          let g : leb x.place place ≡ true = le-leb x.place place within in
-          let r = falls (int_min a x.grade) x.grade front place x.place xs (omega (arith, k.0)) k.1 (min_right a x.grade) in
-          let low : least_grade (int_min a x.grade) front place xs ≤ℤ a = below_both _ _ _ r.0 (min_left a x.grade) in (
-            rw (n, g) low,
-            λ p m. rw (n, g) (cond_both (leb x.place p) (grade_in x.grade xs p) d (λ (v : ℤ). least_grade (int_min a x.grade) front place xs ≤ℤ v)
-                (λ e. r.1 p m) (λ e. below_both _ _ _ low l)),
-          )
-    ]
+    let r = falls (int_min a x.grade) x.grade front place x.place xs (omega (arith, k.0)) k.1 (min_right a x.grade) in
+    let low : least_grade (int_min a x.grade) front place xs ≤ℤ a = below_both _ _ _ r.0 (min_left a x.grade) in (
+      rw n (cond_both _ (least_grade (int_min a x.grade) front place xs) a (λ (v : ℤ). v ≤ℤ a) (λ e. low) (λ e. ≤ℤ_refl a)),
+      λ p m. rw n (cond_both _ (least_grade (int_min a x.grade) front place xs) a (λ (v : ℤ). v ≤ℤ grade_in d (x ∷ xs) p)
+          (λ e. cond_both (leb x.place p) (grade_in x.grade xs p) d (λ (v : ℤ). least_grade (int_min a x.grade) front place xs ≤ℤ v)
+          (λ e. r.1 p m) (λ e. below_both _ _ _ low l))
+          (λ e. let h : leb x.place p ≡ false = grind (arith, nat_tests) in rw h l)),
+    )
 
 -- The computed grade is at most that at each place of the stretch.
 pub least_below : (d : ℤ) (front place : ℕ) (xs : List Section) → Ascends xs → (p : ℕ) → front ≤ p → p ≤ place → least_grade d front place xs ≤ℤ grade_in d xs p

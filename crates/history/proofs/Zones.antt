@@ -1,6 +1,7 @@
 -- What a zone says of the exact distances, by a lawful meaning, and of the phase after it.
 use Rattle.std.proofs.Common.{◌≡◌, ℕ, ◌+◌, ◌*◌, ◌<◌, ◌≤◌, max, true, false, cond, ltb, leb, List, [], ◌∷◌, sym, refl, ap, ◌∙◌, inl, inr, mul-le-mul_right, add-mul, arith}
 use Rattle.std.proofs.lemmas.Bool.{cases_lt, cond_both, ltb-true, ltb-false, le-leb, lt-leb, lt-ltb, le-ltb}
+use Rattle.std.proofs.lemmas.Bool.Decides.{nat_tests}
 use Rattle.place_list.specs.Membership.{In}
 use Rattle.braking.specs.Laws.{Sound}
 use Rattle.braking.specs.Meaning.{Meaning, Verdict, weak, strong}
@@ -35,8 +36,7 @@ pub must_control : (v : Verdict) (front place : ℕ) → Sound v → MustBrake v
 must_control weak front place s h = refl
 must_control (strong e c) front place s h =
     let l : place ≤ front + c.control = reach place front c.control e.control.under e.control.over e.control.above (omega (arith, h)) (omega (arith, s.0.at_least)) in
-    let t : leb place (front + c.control) ≡ true = le-leb place (front + c.control) l in
-    rw t
+    grind (arith, nat_tests)
 
 apart : (z w : Zone) → (zone_number z ≡ zone_number w → ⊥) → z ≡ w → ⊥
 apart z w n e = n (ap zone_number e)
@@ -151,9 +151,9 @@ next_came Emergency z n e = absurd (n refl)
 
 pub clear_is : (z : Zone) → is_clear z ≡ true → z ≡ zones.Clear
 clear_is zones.Clear e = refl
-clear_is zones.Nominal e = let o : ◌≡◌ {A = ℕ} 0 1 = cc in absurd (omega arith)
-clear_is zones.Warning e = let o : ◌≡◌ {A = ℕ} 0 1 = cc in absurd (omega arith)
-clear_is zones.Control e = let o : ◌≡◌ {A = ℕ} 0 1 = cc in absurd (omega arith)
+clear_is zones.Nominal e = grind arith
+clear_is zones.Warning e = grind arith
+clear_is zones.Control e = grind arith
 
 pub clear_no_control : (z : Zone) → z ≡ zones.Clear → z ≡ zones.Control → ⊥
 clear_no_control z e k = apart zones.Clear zones.Control (λ k. omega arith) (sym e ∙ k)

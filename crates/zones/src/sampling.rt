@@ -2,7 +2,7 @@ ghost use Rattle.std.specs.Prelude.{◌≡◌, ◌≤◌};
 ghost use Rattle.braking.specs.Answers.{Says};
 ghost use Rattle.braking.specs.Meaning.{Verdict};
 ghost use Rattle.calls.specs.Zones.{larger_zone};
-ghost use Rattle.history.specs.Step.{largest_zone, target_zone, zone as sample-zone, zone_of};
+ghost use Rattle.history.specs.Step.{largest_zone, target_zone, zone as zone_of_sample, zone_of};
 ghost use Rattle.zones.specs.Items.{sections_in, target_of, targets_in};
 ghost use Rattle.zones.specs.Judging.{Judged};
 
@@ -22,7 +22,7 @@ pub fn sample_zone<M: BrakingModel>(
     front: Distance,
     speed: Speed,
 ) -> Zone
-    ensures { result ≡ sample-zone (M.BrakingModel.meaning model.now) (sections_in sections.now) (targets_in targets.now) front.millimetres speed.tenths }
+    ensures { result ≡ zone_of_sample (M.BrakingModel.meaning model.now) (sections_in sections.now) (targets_in targets.now) front.millimetres speed.tenths }
 {
     if speed.tenths > model.top_speed().speed.tenths {
         return Zone::Control;
