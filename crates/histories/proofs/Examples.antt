@@ -1,6 +1,7 @@
 -- The worked run, that its meaning is lawful, and histories that the lines rule out.
-use Rattle.std.proofs.Common.{◌≡◌, ℕ, ◌*◌, Bool, true, false, cond, [], ◌∷◌, ◌++◌, pos, ◌≤ℤ◌, ◌<ℤ◌, sym, refl, ap, ◌∙◌, subst, inl, inr, arith, lit<, lit≤}
+use Rattle.std.proofs.Common.{◌≡◌, ℕ, ◌*◌, ◌≤◌, Bool, true, false, cond, leb, [], ◌∷◌, ◌++◌, pos, ◌≤ℤ◌, ◌<ℤ◌, sym, refl, ap, ◌∙◌, subst, inl, inr, arith, lit<, lit≤}
 use lib.Signed.{lt_z}
+use Rattle.std.proofs.lemmas.Bool.{le-leb}
 use Rattle.std.proofs.lemmas.Int.{ints}
 use Rattle.units.specs.Fractions.{whole}
 use Rattle.braking.specs.Laws.{Close, Lawful, Sound, Strong}
@@ -71,24 +72,27 @@ near = record { stands = tracked.target_stands goal (inl refl); asks_speed = ref
 never : (h : History) → false ≡ true → LastSampleClear 10 tenfold h
 never h e = let o : ◌≡◌ {A = ℕ} 0 1 = cc in absurd (omega arith)
 
-far : (t : Target) (q : Question) → Bound 10 one_target 699 20 t q → MayBrake (tenfold.verdict q) 699 t.place → ⊥
-far t q b may =
-    let e : q ≡ question made.sections 699 20 t = asks 10 tenfold tenfold_lawful one_target made tracked (never one_target) 699 20 t q b in
-    let may' : MayBrake (tenfold.verdict (question made.sections 699 20 t)) 699 t.place = subst (λ (q : Question). MayBrake (tenfold.verdict q) 699 t.place) e may in
+-- As far from the target as the margin keeps the brake off, or further.
+far : (p : ℕ) (t : Target) (q : Question) → Bound 10 one_target p 20 t q → MayBrake (tenfold.verdict q) p t.place → p ≤ 699 → ⊥
+far p t q b may away =
+    let e : q ≡ question made.sections p 20 t = asks 10 tenfold tenfold_lawful one_target made tracked (never one_target) p 20 t q b in
+    let may' : MayBrake (tenfold.verdict (question made.sections p 20 t)) p t.place = subst (λ (q : Question). MayBrake (tenfold.verdict q) p t.place) e may in
     elim (tracked.target_in t b.stands) [
       | inl same ↦
-          let may'' : MayBrake (tenfold.verdict (question made.sections 699 20 goal)) 699 990 = subst (λ (t : Target). MayBrake (tenfold.verdict (question made.sections 699 20 t)) 699 t.place) same may' in
-          omega (arith, may'')
+          let may'' : MayBrake (tenfold.verdict (question made.sections p 20 goal)) p 990 = subst (λ (t : Target). MayBrake (tenfold.verdict (question made.sections p 20 t)) p t.place) same may' in
+          let begun : leb 0 p ≡ true = le-leb 0 p (omega arith) in
+          let flat = rw begun at may'' in
+          omega (arith, flat)
       | inr none ↦ absurd none
     ]
 
-early : (front speed : ℕ) → sample 699 20 ≡ sample front speed → Reason 10 tenfold one_target front speed → ⊥
-early front speed c (inl fast) = omega (arith, same_speed (record { millimetres = 699 }) (record { tenths = 20 }) front speed c)
-early front speed c (inr w) =
-    let ef : front ≡ 699 = same_front (record { millimetres = 699 }) (record { tenths = 20 }) front speed c in
-    let ev : speed ≡ 20 = same_speed (record { millimetres = 699 }) (record { tenths = 20 }) front speed c in
-    far w.1.0 w.1.1 (subst (λ (x : ℕ). Bound 10 one_target 699 x w.1.0 w.1.1) ev (subst (λ (x : ℕ). Bound 10 one_target x speed w.1.0 w.1.1) ef w.1.2))
-    (subst (λ (x : ℕ). MayBrake (tenfold.verdict w.1.1) x w.1.0.place) ef w.1.3)
+early : (p front speed : ℕ) → sample p 20 ≡ sample front speed → Reason 10 tenfold one_target front speed → p ≤ 699 → ⊥
+early p front speed c (inl fast) away = omega (arith, same_speed (record { millimetres = p }) (record { tenths = 20 }) front speed c)
+early p front speed c (inr w) away =
+    let ef : front ≡ p = same_front (record { millimetres = p }) (record { tenths = 20 }) front speed c in
+    let ev : speed ≡ 20 = same_speed (record { millimetres = p }) (record { tenths = 20 }) front speed c in
+    far p w.1.0 w.1.1 (subst (λ (x : ℕ). Bound 10 one_target p x w.1.0 w.1.1) ev (subst (λ (x : ℕ). Bound 10 one_target x speed w.1.0 w.1.1) ef w.1.2))
+    (subst (λ (x : ℕ). MayBrake (tenfold.verdict w.1.1) x w.1.0.place) ef w.1.3) away
 
 nothing : (front speed : ℕ) → sample 0 50 ≡ sample front speed → Reason 10 tenfold [] front speed → ⊥
 nothing front speed c (inl fast) = omega (arith, same_speed (record { millimetres = 0 }) (record { tenths = 50 }) front speed c)
@@ -166,7 +170,7 @@ ruled_out = record {
   too_near = λ k. let l : Lines 10 tenfold one_target (done (sample 790 20) Warning) = k one_target _ [] refl in
       warned (l.in_time.too_near 790 20 (refl, tt) (lit≤ tt) goal _ near (lit≤ tt));
   for_nothing = λ k. let l : Lines 10 tenfold [] (done (sample 0 50) Emergency) = k [] _ [] refl in let w = l.for_a_reason off refl in nothing w.0 w.1 w.2.0 w.3;
-  too_early = λ k. let l : Lines 10 tenfold one_target (done (sample 699 20) Emergency) = k one_target _ [] refl in let w = l.for_a_reason off refl in early w.0 w.1 w.2.0 w.3;
+  too_early = λ k. let l : Lines 10 tenfold one_target _ = k one_target _ [] refl in let w = l.for_a_reason off refl in early _ w.0 w.1 w.2.0 w.3 (omega arith);
   unasked = λ k. let l : Lines 10 tenfold (done (sample 0 51) Emergency ∷ []) (done (sample 0 20) Free) = k (_ ∷ []) _ [] refl in
       kinds _ _ (l.when_clear refl off).0.0 (λ z. omega arith);
   too_soon = λ k. let l : Lines 10 tenfold (done (sample 0 51) Emergency ∷ []) (done release Free) = k (_ ∷ []) _ [] refl in soon (l.when_clear refl off).1;

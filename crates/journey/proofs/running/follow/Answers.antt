@@ -6,7 +6,7 @@ use Rattle.calls.specs.declared.call.Call.{Call}
 use Rattle.calls.specs.declared.call.Call.TheVariants.{Slope}
 use Rattle.history.specs.Runs.{run}
 use Rattle.supervision.specs.Missions.{eps_of, state_of}
-use Rattle.journey.proofs.Follows.{follow_more, follow_start}
+use Rattle.journey.proofs.Follows.{Followed, follow_more, follow_start}
 use Rattle.journey.proofs.running.follow.Goals as goal
 
 pub loop-call-init : goal.loop-call-init
@@ -26,7 +26,10 @@ loop-call-preserved g c =
     let next = follow_more g.M.BrakingModel.meaning c.args.mission.now c.loop-call.mission c.apply.new.self c.args.sections.now c.loop-call.sections c.apply.new.sections c.args.targets.now c.loop-call.targets c.apply.new.targets
     (take c.loop-call.call-index c.args.calls.now) (vec_items c.loop-call.records) (get_or c.args.calls.now c.loop-call.call-index (Slope (record { millimetres = 0 }) (record { thousandths = pos 0 }))) c.apply.result
     c.loop-call.invariant c.apply.ensures.call c.apply.ensures.phase c.apply.ensures.made in
-    rw (more, items) next
+    let there : Followed g.M.BrakingModel.meaning c.args.mission.now c.apply.new.self c.args.sections.now c.apply.new.sections c.args.targets.now c.apply.new.targets
+    (take (c.loop-call.call-index + 1) c.args.calls.now) (vec_items c.push.new.self) =
+    rw (more, items) next in
+    there
 
 pub returns : goal.returns
 returns g c = let f = c.loop-call.invariant in
