@@ -5,7 +5,7 @@ use Rattle.calls.specs.declared.call.Call.TheVariants.{Slope, Announce, Withdraw
 use Rattle.fields.specs.Keys.{equals}
 use Rattle.fields.specs.Lines.{feed}
 use Rattle.fields.specs.declared.due.Due.{Due}
-use Rattle.fields.specs.declared.due.Due.TheVariants.{Word as WordForm, Number as NumberForm, Signed as SignedForm}
+use Rattle.fields.specs.declared.due.Due.TheVariants.{Word as WordForm, Number as NumberForm, Signed as SignedDue}
 use Rattle.std.specs.Fmt.{signed_decimal}
 use Rattle.call_text.specs.declared.key.AmountKey.TheVariants.{Place, Point, Distance, Speed}
 use Rattle.call_text.specs.declared.key.Key.{Key}
@@ -31,7 +31,7 @@ lead_of (Amount Speed) = codes " speed"
 abbrev pub due_of : Key → Due
 due_of CallKey = WordForm
 due_of Number = NumberForm 10
-due_of Grade = SignedForm 10
+due_of Grade = SignedDue 10
 due_of (Amount k) = NumberForm 10
 
 -- The word of each call.

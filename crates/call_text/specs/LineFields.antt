@@ -93,7 +93,7 @@ abbrev pub StopsIn : (line : List ℕ) → CallFault → Type 0
 StopsIn line f = FieldFault CallKey line 0 f ⊎ ((kind : Kind) × (at : ℕ) × Holds CallKey line 0 (word_of kind) at × Stops (keys_of kind) line at f)
 
 -- The line begins with the text of a call, and goes on with a space at this byte.
-pub record Goes_on (line : List ℕ) (c : Call) (b : ℕ) : Type 0 where
+pub record GoesOn (line : List ℕ) (c : Call) (b : ℕ) : Type 0 where
   pub writable : Writable c
   pub text : line ≡ call_before c (drop b line)
   pub parted : Parted (drop b line)
@@ -109,7 +109,7 @@ abbrev pub LineFault : (line : List ℕ) → CallFault → Type 0
 LineFault line (Field f) = StopsIn line (Field f)
 LineFault line UnknownCall = (word : List ℕ) × (next : ℕ) × Holds CallKey line 0 word next × ((k : Kind) → word ≢ word_of k)
 LineFault line (NumberTooLarge b) = StopsIn line (NumberTooLarge b)
-LineFault line (LeftOver b) = (c : Call) × Goes_on line c b
+LineFault line (LeftOver b) = (c : Call) × GoesOn line c b
 
 -- What a line answers: the call whose text it is, or the first question with a no.
 abbrev pub LineAnswers : (line : List ℕ) → Result Call CallFault → Type 0

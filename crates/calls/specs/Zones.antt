@@ -1,5 +1,5 @@
 -- The number of each zone, and the larger of two.
-use Rattle.std.specs.Prelude.{cond, ℕ, ltb}
+use Rattle.std.specs.Prelude.{cond, ℕ, nat_lt}
 use Rattle.calls.specs.declared.zone.Zone.{Zone}
 use Rattle.calls.specs.declared.zone.Zone.TheVariants.{Clear, Nominal, Warning, Control}
 
@@ -11,4 +11,4 @@ zone_number Control = 3
 
 -- The one with the larger number.
 abbrev pub larger_zone : Zone → Zone → Zone
-larger_zone z w = cond (ltb (zone_number z) (zone_number w)) w z
+larger_zone z w = cond (nat_lt (zone_number z) (zone_number w)) w z

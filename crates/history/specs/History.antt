@@ -82,7 +82,7 @@ abbrev pub steepest : ℤ
 steepest = negsuc 34
 
 -- The section that holds at place p: of those that stand, the one with the greatest place up to p.
-pub record HoldsAt (h : History) (p : ℕ) (x : Section) : Type 0 where
+pub record SectionHolds (h : History) (p : ℕ) (x : Section) : Type 0 where
   pub stands : SectionStands h x
   pub begun : x.place ≤ p
   pub last : (y : Section) → SectionStands h y → y.place ≤ p → y.place ≤ x.place
@@ -90,7 +90,7 @@ pub record HoldsAt (h : History) (p : ℕ) (x : Section) : Type 0 where
 -- The grade at place p is g: that of the section that holds there, or the steepest where every one that stands begins further on.
 abbrev pub GradeAt : History → ℕ → ℤ → Type 0
 GradeAt h p g =
-    ((x : Section) × HoldsAt h p x × (x.grade ≡ g)) ⊎ (((y : Section) → SectionStands h y → p < y.place) × (g ≡ steepest))
+    ((x : Section) × SectionHolds h p x × (x.grade ≡ g)) ⊎ (((y : Section) → SectionStands h y → p < y.place) × (g ≡ steepest))
 
 -- The grade of the stretch from a to b is g: the least of the grades at its places, both ends counted.
 pub record GradeOfStretch (h : History) (a b : ℕ) (g : ℤ) : Type 0 where

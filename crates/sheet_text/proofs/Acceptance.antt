@@ -71,14 +71,14 @@ same_entry e f r s is t =
     same_by_key e y.0 r (subst Ranged y.1 s) (t ∙ ap value_text y.1) ∙ sym y.1
 
 -- the lines in front of a text of lines are its first ones
-record Goes_on (es fs : List Entry) (rest : List ℕ) (ks : List Key) : Type 0 where
+record GoesOn (es fs : List Entry) (rest : List ℕ) (ks : List Key) : Type 0 where
   others : List Entry
   all : fs ≡ es ++ others
   text : rest ≡ lines others
   their_keys : map key_of others ≡ ks
   ranged : AllByRecursion Ranged others
 
-goes_on : (es fs : List Entry) (rest : List ℕ) (ks : List Key) → AllByRecursion Ranged es → AllByRecursion Ranged fs → map key_of fs ≡ map key_of es ++ ks → lines es ++ rest ≡ lines fs → Goes_on es fs rest ks
+goes_on : (es fs : List Entry) (rest : List ℕ) (ks : List Key) → AllByRecursion Ranged es → AllByRecursion Ranged fs → map key_of fs ≡ map key_of es ++ ks → lines es ++ rest ≡ lines fs → GoesOn es fs rest ks
 goes_on [] fs rest ks re rf is e = record { others = fs; all = refl; text = e; their_keys = is; ranged = rf }
 goes_on (x ∷ es) [] rest ks re rf is e = let z : ◌≡◌ {A = ℕ} 0 1 = cc in absurd (omega arith)
 goes_on (x ∷ es) (y ∷ fs) rest ks re rf is e =
