@@ -14,8 +14,6 @@ import sys
 WORD = re.compile(r'[^\s(){}.;,@"«»`]+')
 HEAD = re.compile(r"^(?P<indent> *)(?:(?:abbrev|unfoldable) )?(?:pub )?(?P<kind>record |data )?(?P<name>[^\s(){}.;,@\"«»:=]+)(?: \([^)]*\)| \{[^}]*\})* :(?= )(?P<type>.*)$")
 STRING = re.compile(r'"(?:[^"\\\n]|\\.)*"')
-GOALS = ("Answers.antt", "Invariants.antt", "Proof.antt")
-CLAUSE = re.compile(r"(?:requires|ensures)\*? (?:\w+ )?\{|ghost (?:\w+: )?\{|ghost use ")
 
 
 def files(*ends):
