@@ -1,3 +1,4 @@
 pub mod Meaning
 pub mod Laws
 pub mod Answers
+pub mod Refusals

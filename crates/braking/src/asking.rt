@@ -1,5 +1,5 @@
 ghost use Rattle.std.specs.Prelude.{◌≡◌};
-ghost use Rattle.braking.specs.Answers.{Asking, number, question_of};
+ghost use Rattle.braking.specs.Answers.{Asking, question_of};
 
 use crate::approach::Approach;
 use crate::question::Question;
@@ -30,18 +30,5 @@ impl Question {
             target,
             grade,
         })
-    }
-}
-
-impl Refusal {
-    // The number that stands for the refusal.
-    pub fn number(self) -> u8
-        ensures { result ≡ number self }
-    {
-        match self {
-            Refusal::TooFast => 8,
-            Refusal::GradeOutOfLimits => 9,
-            Refusal::NotBinding => 13,
-        }
     }
 }

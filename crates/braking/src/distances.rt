@@ -3,7 +3,7 @@ ghost use Rattle.std.specs.Prelude.{◌≤◌};
 use units::Distance;
 
 // The three braking distances; the type keeps them in order.
-#[derive(Clone, Copy)]
+#[derive(Clone, Copy, Debug, PartialEq, Eq)]
 pub struct Distances {
     pub control: Distance,
     pub warning: Distance,
