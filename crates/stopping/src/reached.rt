@@ -30,9 +30,6 @@ impl Reached {
         requires brief { time ≤ 100 }
         ensures { result ≡ computed_lead time self.speed.steps }
     {
-        quotient_up(
-            u64::from(time) * self.speed.steps,
-            Divisor { value: 360 },
-        )
+        quotient_up(u64::from(time) * self.speed.steps, Divisor { value: 360 })
     }
 }

@@ -57,22 +57,6 @@ returned s q m f fits e limits =
     let value = is_reached_up s q r f reaches (rw is least) either in
     record { value = value; bounded = rw value (reached_up_bounded s limits); reaches = reaches }
 
-pub overflow_mul-self-2 : goal.overflow_mul-self-2
-overflow_mul-self-2 c =
-    let T : ℕ = c.args.self.now.reaction.time.ticks in
-    let G : ℤ = c.args.self.now.slope.units in
-    let e : to_z w64 (of_z w64 (pos 9 *ℤ to_z w64 T)) ≡ pos (9 * T) = omega (arith, ints, c.args.self.now.reaction.brief) in
-    let k : to_z w64 (of_z w64 G) ≡ G = to_z-of_z w64 G (slope_fits G c.args.self.now.not_steeper_down c.args.self.now.not_steeper_up) in
-    simp (e, k) (product_fits T G c.args.self.now.reaction.brief c.args.self.now.not_steeper_down c.args.self.now.not_steeper_up)
-
-pub after_loss-reached-requires : goal.after_loss-reached-requires
-after_loss-reached-requires c =
-    let self = c.args.self.now in
-    let q : ℤ = c.quotient_floor-loss.result in
-    let f = loss_floored self.reaction.time.ticks self.slope.units q self.reaction.brief self.not_steeper_down self.not_steeper_up c.quotient_floor-loss.ensures.meaning in
-    let small = loss_within self.reaction.time.ticks self.slope.units q self.reaction.brief self.not_steeper_down self.not_steeper_up f in
-    record { slow = self.slow; not_below = omega (arith, ints, small.0, small.1); not_above = omega (arith, ints, small.0, small.1) }
-
 pub overflow_cast-result : goal.overflow_cast-result
 overflow_cast-result c = let h = c.max.ensures.other_bound in (omega (arith, ints, c.max.type_inv), omega (arith, ints, c.max.type_inv))
 

@@ -2,7 +2,7 @@ use Rattle.std.proofs.Common.{◌≡◌, ℕ, sym, ◌∙◌, subst}
 use Rattle.sheet.proofs.Limits.{limits}
 use Rattle.models.specs.Vl.{Greatest, vl}
 use Rattle.models.proofs.FadingSpeeds.{greatest}
-use Rattle.models.proofs.scmt.Scmt.fading_speed.Goals as goal
+use Rattle.models.proofs.fit_values.FitValues.fading_speed.Goals as goal
 
 pub returns : goal.returns
 unfolding vl

@@ -6,15 +6,15 @@ use Rattle.models.specs.Formulas.{fading, factors}
 use Rattle.models.specs.Scaling.{Is}
 use Rattle.models.specs.Vl.{vl}
 use Rattle.models.proofs.Chains.{scaled_is, small_cast}
-use Rattle.models.proofs.scmt.Scmt.braking.Goals as goal
+use Rattle.models.proofs.scmt.ScmtRulesRules.braking.Goals as goal
 
 pub counted-requires : goal.counted-requires
-counted-requires c = (limits c.args.self.now.values c.args.self.now.fine).kr
+counted-requires c = (limits c.args.sheet.now.values c.args.sheet.now.fine).kr
 
 pub returns : goal.returns
 unfolding factors
 returns c =
-    let lambda : ℕ = c.args.self.now.values.lambda in
+    let lambda : ℕ = c.args.sheet.now.values.lambda in
     let V : ℕ = c.args.approach.speed.tenths in
     let fades : Is (cond (ltb (vl lambda) V) (fading lambda V) (whole 1)) c.fading.result =
     subst (λ (n : ℕ). Is (cond (ltb n V) (ratio (100000 - 21 * (V - n)) 100000) (whole 1)) c.fading.result) c.fading_speed.ensures.value c.fading.ensures in
