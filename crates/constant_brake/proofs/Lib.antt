@@ -1,3 +1,2 @@
 mod Fitting
 mod Plainly
-mod Showing

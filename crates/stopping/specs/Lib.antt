@@ -3,3 +3,4 @@ pub mod Slopes
 pub mod Stops
 pub mod Working
 pub mod Shown
+pub mod Meanings
