@@ -1,12 +1,12 @@
-use braking::{Answer, Question};
+use braking::{Distances, Question};
 use models::SheetModel;
 use std::io;
 use stopping::Steps;
 
-fn show_answer(rt: &HostRuntime, answer: Answer) -> io::Result<()> {
+fn show_answer(rt: &HostRuntime, answer: Option<Distances>) -> io::Result<()> {
     match answer {
-        Answer::Weak => println!(rt; "weak"),
-        Answer::Strong(distances) => {
+        None => println!(rt; "weak"),
+        Some(distances) => {
             let control = distances.control.millimetres;
             let warning = distances.warning.millimetres;
             let nominal = distances.nominal.millimetres;

@@ -1,4 +1,4 @@
-use braking::{Answer, BrakingModel, Question};
+use braking::{BrakingModel, Distances, Question};
 use models::SheetModel;
 use std::io;
 use units::{Grade, Speed};
@@ -22,10 +22,10 @@ fn show_row(rt: &HostRuntime, model: &SheetModel, speed: u64, grade: i64) -> io:
     }
 }
 
-fn show_answer(rt: &HostRuntime, answer: Answer) -> io::Result<()> {
+fn show_answer(rt: &HostRuntime, answer: Option<Distances>) -> io::Result<()> {
     match answer {
-        Answer::Weak => println!(rt; "weak - -"),
-        Answer::Strong(distances) => {
+        None => println!(rt; "weak - -"),
+        Some(distances) => {
             let control = distances.control.millimetres;
             let warning = distances.warning.millimetres;
             let nominal = distances.nominal.millimetres;
@@ -38,7 +38,7 @@ fn show_answer(rt: &HostRuntime, answer: Answer) -> io::Result<()> {
 pub(crate) fn show_table(rt: &HostRuntime, model: &SheetModel) -> io::Result<()> {
     println!(rt; "speed grade control warning nominal")?;
     let steps = model.top_speed().speed.tenths / 100;
-    for step in 1..steps + 1 {
+    for step in 1..=steps {
         for grade in &GRADES {
             show_row(rt, model, step * 100, *grade)?;
         }

@@ -3,7 +3,7 @@
 // Many questions to several maker's brakes, and numbers that make no brake, held to an independent calculation.
 mod cases;
 
-use braking::{Answer, BrakingModel, Question};
+use braking::{BrakingModel, Distances, Question};
 use cases::{BRAKES, QUESTIONS, SHEET};
 use constant_brake::{BrakeData, ConstantBrake};
 use sheet::{Admitted, Draft, Rejected};
@@ -73,10 +73,10 @@ fn show_answer(rt: &HostRuntime, brake: &ConstantBrake, question: Question) -> i
     }
 }
 
-fn show_verdict(rt: &HostRuntime, answer: Answer) -> io::Result<()> {
+fn show_verdict(rt: &HostRuntime, answer: Option<Distances>) -> io::Result<()> {
     match answer {
-        Answer::Weak => println!(rt; "weak"),
-        Answer::Strong(distances) => {
+        None => println!(rt; "weak"),
+        Some(distances) => {
             let control = distances.control.millimetres;
             let warning = distances.warning.millimetres;
             let nominal = distances.nominal.millimetres;

@@ -3,7 +3,7 @@
 // Every step of many questions on several sheets, held to an independent calculation.
 mod cases;
 
-use braking::{Answer, Question};
+use braking::{Distances, Question};
 use cases::{GRADES, SHEETS, SPEEDS, TARGETS};
 use figures::sheet_a;
 use models::SheetModel;
@@ -28,10 +28,10 @@ fn model_of(values: Values) -> Option<SheetModel> {
     }
 }
 
-fn show_answer(rt: &HostRuntime, answer: Answer) -> io::Result<()> {
+fn show_answer(rt: &HostRuntime, answer: Option<Distances>) -> io::Result<()> {
     match answer {
-        Answer::Weak => println!(rt; " weak"),
-        Answer::Strong(distances) => {
+        None => println!(rt; " weak"),
+        Some(distances) => {
             let control = distances.control.millimetres;
             let warning = distances.warning.millimetres;
             let nominal = distances.nominal.millimetres;
