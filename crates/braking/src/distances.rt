@@ -1,5 +1,6 @@
-ghost use Rattle.std.specs.Prelude.{◌≤◌};
+ghost use Rattle.std.specs.Prelude.{◌≤◌, Some};
 
+use std::fmt;
 use units::Distance;
 
 // The three braking distances; the type keeps them in order.
@@ -10,4 +11,17 @@ pub struct Distances {
     pub nominal: Distance,
     ghost control_first: { control.millimetres ≤ warning.millimetres },
     ghost nominal_last: { warning.millimetres ≤ nominal.millimetres },
+}
+
+impl fmt::Display for Distances {
+    ghost use Rattle.braking.specs.Printed.{distances_text};
+
+    ghost output = { λ d. Some (distances_text d) };
+
+    fn fmt<W: fmt::Write>(&self, f: &mut fmt::Formatter<W>) -> fmt::Result {
+        let control = self.control.millimetres;
+        let warning = self.warning.millimetres;
+        let nominal = self.nominal.millimetres;
+        write!(f, "control={control} warning={warning} nominal={nominal}")
+    }
 }

@@ -1,4 +1,4 @@
-use braking::{BrakingModel, Distances, Question};
+use braking::{BrakingModel, Question};
 use models::SheetModel;
 use std::io;
 use units::{Grade, Speed};
@@ -14,23 +14,14 @@ fn show_row(rt: &HostRuntime, model: &SheetModel, speed: u64, grade: i64) -> io:
     };
     print!(rt; "{speed} {grade} ")?;
     match model.answer(question) {
-        Err(refusal) => {
-            let number = refusal.number();
-            println!(rt; "answer={number}")
-        }
-        Ok(answer) => show_answer(rt, answer),
-    }
-}
-
-fn show_answer(rt: &HostRuntime, answer: Option<Distances>) -> io::Result<()> {
-    match answer {
-        None => println!(rt; "weak - -"),
-        Some(distances) => {
-            let control = distances.control.millimetres;
-            let warning = distances.warning.millimetres;
-            let nominal = distances.nominal.millimetres;
-            println!(rt; "{control} {warning} {nominal}")
-        }
+        Err(refusal) => println!(rt; "answer={}", refusal.number()),
+        Ok(None) => println!(rt; "weak - -"),
+        Ok(Some(distances)) => println!(rt;
+            "{} {} {}",
+            distances.control.millimetres,
+            distances.warning.millimetres,
+            distances.nominal.millimetres
+        ),
     }
 }
 
