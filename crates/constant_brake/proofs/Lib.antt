@@ -1,2 +1,1 @@
-mod Fitting
 mod Plainly

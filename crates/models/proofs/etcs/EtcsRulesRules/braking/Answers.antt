@@ -6,9 +6,6 @@ use Rattle.models.specs.Formulas.{start, factors, targeted}
 use Rattle.models.proofs.Chains.{scaled_is, two_of_five, small_cast}
 use Rattle.models.proofs.etcs.EtcsRulesRules.braking.Goals as goal
 
-pub counted-requires : goal.counted-requires
-counted-requires c = (limits c.args.sheet.now.values c.args.sheet.now.fine).kr
-
 pub returns : goal.returns
 unfolding factors
 returns c =

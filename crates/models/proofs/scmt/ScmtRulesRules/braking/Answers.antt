@@ -8,9 +8,6 @@ use Rattle.models.specs.Vl.{vl}
 use Rattle.models.proofs.Chains.{scaled_is, small_cast}
 use Rattle.models.proofs.scmt.ScmtRulesRules.braking.Goals as goal
 
-pub counted-requires : goal.counted-requires
-counted-requires c = (limits c.args.sheet.now.values c.args.sheet.now.fine).kr
-
 pub returns : goal.returns
 unfolding factors
 returns c =
