@@ -1,2 +1,2 @@
-mod KeyedParts
+pub mod Ending
 mod Signs
