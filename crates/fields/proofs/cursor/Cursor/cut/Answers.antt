@@ -1,43 +1,33 @@
-use Rattle.std.proofs.Common.{◌≡◌, ℕ, ◌+◌, ◌-◌, ◌<◌, ◌≤◌, true, false, List, ◌∷◌, ◌++◌, length, get_or, take, drop, Some, None, Err, Option, Result, position, ◌==◌, sym, ap, ◌∙◌, subst, arith, length-take, get_or-take}
-use Rattle.std.specs.List.{position_or_len}
+use Rattle.std.proofs.Common.{◌≡◌, ℕ, ◌+◌, ◌-◌, ◌<◌, List, ◌∷◌, ◌++◌, length, get_or, take, drop, Some, None, Err, Option, Result, position, ◌==◌, sym, ap, ◌∙◌, subst, arith, length-take, get_or-take}
 use Rattle.std.specs.Option.{ok_or}
-use Rattle.std.proofs.lemmas.Bool.Decides.{nat_tests}
 use Rattle.std.proofs.lemmas.List.{take-append-drop, drop_more, length-take-le, take_rest}
-use Rattle.std.proofs.lemmas.List.Quantifiers.{position-Some}
-use Rattle.std.proofs.lemmas.List.Sums.{fails_before_first}
 use Rattle.std.proofs.lemmas.Result.{err_from_is_err_and}
 use Rattle.fields.specs.Lines.{Begins, NoFeed, feed}
 use Rattle.fields.specs.declared.faults.TextFault.{TextFault}
+use Rattle.fields.proofs.Firsts.{first, nowhere}
 use Rattle.fields.proofs.cursor.Cursor.cut.Goals as goal
 
 line_and_feed : (bytes : List ℕ) (n : ℕ) → n < length bytes → get_or bytes n 0 ≡ 10 → bytes ≡ take n bytes ++ 10 ∷ drop (n + 1) bytes
 line_and_feed bytes n h sign = sym (take-append-drop n bytes) ∙ ap (λ (t : List ℕ). take n bytes ++ t) (drop_more bytes n 0 h ∙ ap (λ (b : ℕ). b ∷ drop (n + 1) bytes) sign)
 
-is_feed : (b : ℕ) → (b == feed) ≡ true → b ≡ 10
-is_feed b e = grind (arith, nat_tests)
-
-no_feed : (b : ℕ) → (b == feed) ≡ false → b ≡ 10 → ⊥
-no_feed b e f = grind (arith, nat_tests)
-
 -- where the first feed of the window stands, the line ends
 found : (window : ℕ) (bytes : List ℕ) (n : ℕ) → Some n ≡ position (λ b. b == feed) (take window bytes) → Begins window bytes (take n bytes)
 found window bytes n e =
-    let first = position-Some (λ b. b == feed) (take window bytes) n 0 (sym e) in
+    let f = first feed (take window bytes) n e in
     let size = length-take window bytes in
-    let here : get_or bytes n 0 ≡ 10 = sym (get_or-take window bytes n 0 (omega arith)) ∙ is_feed _ first.1 in
-    let short : length (take n bytes) ≡ n = length-take-le n bytes (omega arith) in
+    let here : get_or bytes n 0 ≡ 10 = sym (get_or-take window bytes n 0 (omega (arith, f.within))) ∙ f.here in
+    let short : length (take n bytes) ≡ n = length-take-le n bytes (omega (arith, f.within)) in
     record {
-      behind = (drop (n + 1) bytes, line_and_feed bytes n (omega arith) here);
-      none_before = λ k h f. no_feed _ (first.2 k (omega arith)) (get_or-take window bytes k 0 (omega arith) ∙ (sym (get_or-take n bytes k 0 (omega arith)) ∙ f));
-      within = omega arith;
+      behind = (drop (n + 1) bytes, line_and_feed bytes n (omega (arith, f.within)) here);
+      none_before = λ k h is. f.none_before k (omega arith) (get_or-take window bytes k 0 (omega (arith, f.within)) ∙ (sym (get_or-take n bytes k 0 (omega arith)) ∙ is));
+      within = omega (arith, f.within);
     }
 
 -- where the window has no first feed, it has none
 missing : (window : ℕ) (bytes : List ℕ) → None ≡ position (λ b. b == feed) (take window bytes) → NoFeed window bytes
 missing window bytes e k w l f =
     let size = length-take window bytes in
-    let last : length (take window bytes) ≤ position_or_len (λ b. b == feed) (take window bytes) = grind (arith, nat_tests) in
-    no_feed _ (fails_before_first (λ b. b == feed) (take window bytes) k 0 (omega arith)) (get_or-take window bytes k 0 (omega arith) ∙ f)
+    nowhere feed (take window bytes) e k (omega arith) (get_or-take window bytes k 0 (omega arith) ∙ f)
 
 turned : (o : Option ℕ) (e t : TextFault) → Err t ≡ ok_or o e → o ≡ None → t ≡ e
 turned o e t h n = let is : ◌≡◌ {A = Result ℕ TextFault} (Err t) (Err e) = h ∙ ap (λ (p : Option ℕ). ok_or p e) n in cc
