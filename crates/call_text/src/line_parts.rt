@@ -1,9 +1,8 @@
-ghost use Rattle.std.specs.Prelude.{◌≡◌, ◌==◌, position};
-ghost use Rattle.call_text.specs.CallTexts.{space};
+ghost use Rattle.std.specs.Prelude.{◌≡◌};
 ghost use Rattle.call_text.specs.LineFields.{EndsBehind, SpanAnswers};
 
 use crate::key::Key;
-use fields::{Cursor, Span, ValueFault};
+use fields::{Cursor, Span, ValueFault, first_of};
 
 // The fields of a line that are still to be read.
 #[derive(Drop)]
@@ -29,15 +28,8 @@ fn field_end(line: &[u8], at: usize) -> usize
     ensures { EndsBehind line.now at result }
 {
     let (first, behind) = line.split_at(line.len().min(at.saturating_add(1)));
-    match first_space(behind) {
+    match first_of(behind, b' ') {
         Some(before) => first.len() + before,
         None => line.len(),
     }
-}
-
-// Where the first space stands.
-fn first_space(bytes: &[u8]) -> Option<usize>
-    ensures { result ≡ position (λ b. b == space) bytes.now }
-{
-    bytes.iter().position(|byte| *byte == b' ')
 }

@@ -5,8 +5,8 @@ ghost use Rattle.fields.specs.Lines.{Cut, Ended};
 
 use crate::due::Due;
 use crate::faults::{TextFault, ValueFault};
-use crate::feeds::first_feed;
 use crate::field::Field;
+use crate::first_byte::first_of;
 use crate::span::Span;
 
 // A text with the byte from which on it is read.
@@ -34,7 +34,8 @@ impl<'a> Cursor<'a> {
         ensures { Cut self.entry.text.now self.entry.at window result }
     {
         let rest = self.upto(self.text.len()).bytes;
-        let feed = first_feed(rest, window).ok_or(TextFault::NoLineFeed(self.at))?;
+        let window = &rest[..window.min(rest.len())];
+        let feed = first_of(window, b'\n').ok_or(TextFault::NoLineFeed(self.at))?;
         Ok(self.upto(self.at + feed))
     }
 
