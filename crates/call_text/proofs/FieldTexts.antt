@@ -68,8 +68,8 @@ parted_space (b ∷ bytes) some p = p
 module _ (k : Key) (line : List ℕ) (at end : ℕ) (e : EndsBehind line at end) where
   -- what is said of a field is said of its span and its end
   abbrev pub BetweenAnswers : Result Field ValueFault → Type 0
-  BetweenAnswers (Ok f) = (s : Span) → s ≡ span_of f → SpanAnswers k line at (Ok (s, end))
-  BetweenAnswers (Err f) = SpanAnswers k line at (Err f)
+  BetweenAnswers (Ok f) = (s : Span) → s ≡ span_of f → SpanAnswers k line at end (Ok s)
+  BetweenAnswers (Err f) = SpanAnswers k line at end (Err f)
 
   pub holds : (value : List ℕ) → Keyed (lead_of k) (between at end line) value → Holds k line at value end
   holds value keyed =
@@ -117,7 +117,7 @@ module _ (k : Key) (line : List ℕ) (at end : ℕ) (e : EndsBehind line at end)
           none (take m behind) (ap (take (end - at)) is ∙ (ap (λ (i : ℕ). take i (lead_of k ++ 61 ∷ behind)) size ∙ take-append-add (lead_of k) (61 ∷ behind) (suc m)))
 
   told : (due : Due) (r : Result Field ValueFault) → due ≡ due_of k → FieldsAnswers (between at end line) at (lead_of k) due r → BetweenAnswers r
-  told due (Ok f) is a = λ s e. subst (λ (t : Span). SpanAnswers k line at (Ok (t, end))) (sym e) (holds (value_of f) a.0, a.1, subst (λ (d : Due). Fits d (value_of f)) is a.3)
+  told due (Ok f) is a = λ s e. subst (λ (t : Span). SpanAnswers k line at end (Ok t)) (sym e) (holds (value_of f) a.0, a.1, subst (λ (d : Due). Fits d (value_of f)) is a.3)
   told due (Err (Text t)) is a = a
   told due (Err (OtherKey b)) is a = (a.0, other a.1)
   told due (Err (BadValue b)) is a = (a.0, (a.1.0, end, holds a.1.0 a.1.1, subst (λ (d : Due). Fits d a.1.0 → ⊥) is a.1.2))

@@ -1,8 +1,7 @@
 -- The text of a call without its line feed, and what the line answers as an answer of the text.
-use Rattle.std.proofs.Common.{◌≡◌, ℕ, ◌+◌, ◌-◌, ◌<◌, List, [], ◌∷◌, ◌++◌, length, take, drop, ℤ, Ok, Err, Result, sym, refl, ap, ◌∙◌, subst, inl, inr, append_assoc, arith, length-append}
+use Rattle.std.proofs.Common.{◌≡◌, ℕ, ◌+◌, List, [], ◌∷◌, ◌++◌, length, drop, ℤ, Ok, Err, Result, sym, refl, ap, ◌∙◌, inl, inr, append_assoc, arith, length-append}
 use Rattle.std.specs.Fmt.{signed_decimal}
-use Rattle.std.specs.List.{between}
-use Rattle.std.proofs.lemmas.List.{drop_at, length-take-le}
+use Rattle.std.proofs.lemmas.List.{drop_at}
 use Rattle.calls.specs.declared.call.Call.{Call}
 use Rattle.fields.specs.Lines.{Begins}
 use Rattle.fields.specs.declared.faults.ValueFault.TheVariants.{Text, OtherKey, BadValue}
@@ -66,8 +65,3 @@ module _ (text line : List ℕ) (end : ℕ) (size : length line ≡ end) (begins
   answered (Err UnknownCall) a = record { line = line; begins = begins; ends = omega arith; faulty = a }
   answered (Err (NumberTooLarge b)) a = record { line = line; begins = begins; ends = omega arith; faulty = a }
   answered (Err (LeftOver b)) a = record { line = line; begins = begins; ends = omega arith; faulty = a }
-
-pub line_answered : (text : List ℕ) (end : ℕ) (r : Result Call CallFault) → end < length text → Begins 96 text (between 0 end text) → LineAnswers (take end text) r → Answers text r (end + 1)
-line_answered text end r h begins a =
-    let start : end - 0 ≡ end = omega arith in
-    answered text (take end text) end (length-take-le end text (omega arith)) (subst (λ (n : ℕ). Begins 96 text (take n text)) start begins) r a

@@ -1,5 +1,5 @@
 -- What the fields of a call line answer. The line is without its line feed.
-use Rattle.std.specs.Prelude.{◌≡◌, ℕ, ◌+◌, ◌<◌, ◌≤◌, ◌⊎◌, List, [], ◌∷◌, ◌++◌, length, drop, ℤ, Some, None, Ok, Err, decimal, Option, Result, ◌≢◌, slice_index}
+use Rattle.std.specs.Prelude.{◌≡◌, ℕ, ◌+◌, ◌<◌, ◌≤◌, ◌⊎◌, List, [], ◌∷◌, ◌++◌, length, drop, ℤ, Ok, Err, decimal, Result, ◌≢◌, slice_index}
 use Rattle.calls.specs.declared.call.Call.{Call}
 use Rattle.fields.specs.Fields.{Fits}
 use Rattle.fields.specs.Keys.{equals}
@@ -39,11 +39,12 @@ HasOtherKey k line at = (behind : List ℕ) → drop at line ≢ lead_of k ++ eq
 abbrev pub value_byte : Key → (at : ℕ) → ℕ
 value_byte k at = at + length (lead_of k) + 1
 
-abbrev pub SpanAnswers : Key → (line : List ℕ) (at : ℕ) → Result (Span × ℕ) ValueFault → Type 0
-SpanAnswers k line at (Ok r) = Holds k line at r.0.bytes.now r.1 × (r.0.byte ≡ value_byte k at) × Fits (due_of k) r.0.bytes.now
-SpanAnswers k line at (Err (Text t)) = ⊥
-SpanAnswers k line at (Err (OtherKey b)) = (b ≡ at) × HasOtherKey k line at
-SpanAnswers k line at (Err (BadValue b)) = (b ≡ value_byte k at) × ((value : List ℕ) × (next : ℕ) × Holds k line at value next × (Fits (due_of k) value → ⊥))
+-- The span of the value of a key's field from a byte of the line on, with the byte behind it as the next one, or why there is none.
+abbrev pub SpanAnswers : Key → (line : List ℕ) (at next : ℕ) → Result Span ValueFault → Type 0
+SpanAnswers k line at next (Ok s) = Holds k line at s.bytes.now next × (s.byte ≡ value_byte k at) × Fits (due_of k) s.bytes.now
+SpanAnswers k line at next (Err (Text t)) = ⊥
+SpanAnswers k line at next (Err (OtherKey b)) = (b ≡ at) × HasOtherKey k line at
+SpanAnswers k line at next (Err (BadValue b)) = (b ≡ value_byte k at) × ((value : List ℕ) × (end : ℕ) × Holds k line at value end × (Fits (due_of k) value → ⊥))
 
 -- From a byte of the line on stands the field of a key with a value that it may have.
 pub record Stands (k : Key) (z : ℤ) (line : List ℕ) (at next : ℕ) : Type 0 where
@@ -62,9 +63,10 @@ FieldFault k line at (NumberTooLarge b) =
     (k ≡ Number) × (b ≡ value_byte k at) × ((n : ℕ) × (next : ℕ) × Holds k line at (decimal n) next × Fits (due_of k) (decimal n) × (65535 < n))
 FieldFault k line at (LeftOver b) = ⊥
 
-abbrev pub FieldAnswers : {X : Type 0} → (X → ℤ) → Key → (line : List ℕ) (at : ℕ) → Result (X × ℕ) CallFault → Type 0
-FieldAnswers whole k line at (Ok r) = Stands k (whole r.0) line at r.1
-FieldAnswers whole k line at (Err f) = FieldFault k line at f
+-- The value of a key's field from a byte of the line on, with the byte behind it as the next one, or its fault.
+abbrev pub FieldAnswers : {X : Type 0} → (X → ℤ) → Key → (line : List ℕ) (at next : ℕ) → Result X CallFault → Type 0
+FieldAnswers whole k line at next (Ok x) = Stands k (whole x) line at next
+FieldAnswers whole k line at next (Err f) = FieldFault k line at f
 
 -- One of the fields due from a byte of the line on has this fault, and those before it stand there.
 abbrev pub Stops : List Key → (line : List ℕ) (at : ℕ) → CallFault → Type 0
@@ -79,14 +81,10 @@ pub record FieldsStand (kind : Kind) (c : Call) (line : List ℕ) (at next : ℕ
   pub parted : Parted (drop next line)
   pub within : next ≤ length line
 
-abbrev pub FieldsAnswer : Kind → (line : List ℕ) (at : ℕ) → Result (Call × ℕ) CallFault → Type 0
-FieldsAnswer kind line at (Ok r) = FieldsStand kind r.0 line at r.1
-FieldsAnswer kind line at (Err f) = Stops (keys_of kind) line at f
-
--- The one call whose word this is, or none.
-abbrev pub KindRead : List ℕ → Option Kind → Type 0
-KindRead word (Some k) = word ≡ word_of k
-KindRead word None = (k : Kind) → word ≢ word_of k
+-- The call of a kind whose fields stand from a byte of the line on, with the byte behind them as the next one, or the first fault.
+abbrev pub FieldsAnswer : Kind → (line : List ℕ) (at next : ℕ) → Result Call CallFault → Type 0
+FieldsAnswer kind line at next (Ok c) = FieldsStand kind c line at next
+FieldsAnswer kind line at next (Err f) = Stops (keys_of kind) line at f
 
 -- The first field, or one of those due behind a call's word, has this fault.
 abbrev pub StopsIn : (line : List ℕ) → CallFault → Type 0
@@ -98,11 +96,6 @@ pub record GoesOn (line : List ℕ) (c : Call) (b : ℕ) : Type 0 where
   pub text : line ≡ call_before c (drop b line)
   pub parted : Parted (drop b line)
   pub more : b < length line
-
--- Whether the line ends at a byte; if not, that byte is the first one left over.
-abbrev pub Ended : (line : List ℕ) (end : ℕ) → Result (Unit {0}) CallFault → Type 0
-Ended line end (Ok u) = end ≡ length line
-Ended line end (Err f) = (f ≡ LeftOver end) × (end ≢ length line)
 
 -- The first question with a no.
 abbrev pub LineFault : (line : List ℕ) → CallFault → Type 0

@@ -4,7 +4,7 @@ ghost use Rattle.call_text.specs.declared.call_fault.CallFault.TheVariants.{Fiel
 use fields::ValueFault;
 
 // Why a call line could not be read. Bytes are counted from the line's first.
-#[derive(Clone, Copy)]
+#[derive(Clone, Copy, Debug, PartialEq, Eq)]
 pub enum CallFault {
     Field(ValueFault),
     // the word behind the first key is no call

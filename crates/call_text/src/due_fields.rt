@@ -1,76 +1,84 @@
-ghost use Rattle.std.specs.Prelude.{◌≤◌, length, drop};
+ghost use Rattle.std.specs.Prelude.{◌≡◌, ◌≤◌, length, drop};
 ghost use Rattle.call_text.specs.CallTexts.{Parted};
 ghost use Rattle.call_text.specs.LineFields.{FieldsAnswer};
 ghost use Rattle.call_text.specs.declared.kind.Kind.TheVariants.{Slope as OfSlope, Announce as OfAnnounce, Withdraw as OfWithdraw, Sample as OfSample};
 
 use crate::call_fault::CallFault;
-use crate::field_values::{amount_at, grade_at, number_at};
 use crate::key::AmountKey;
 use crate::kind::Kind;
+use crate::line_parts::Fields;
 use calls::Call;
 use units::{Distance, Grade, Speed};
 
-// The call of a kind whose fields stand in the line from a byte on, and the byte behind the last of them.
-pub(crate) fn call_behind(kind: Kind, line: &[u8], at: usize) -> Result<(Call, usize), CallFault>
-    requires parted { Parted (drop at line.now) }
-    requires within { at ≤ length line.now }
-    ensures { FieldsAnswer kind line.now at result }
-{
-    match kind {
-        Kind::Slope => slope_behind(line, at),
-        Kind::Announce => announce_behind(line, at),
-        Kind::Withdraw => withdraw_behind(line, at),
-        Kind::Sample => sample_behind(line, at),
-        Kind::Release => Ok((Call::Release, at)),
+impl<'a> Fields<'a> {
+    // The call of a kind whose fields are the next ones.
+    pub(crate) fn call(&mut self, kind: Kind) -> Result<Call, CallFault>
+        requires parted { Parted (drop self.old.rest.at self.old.rest.text.now) }
+        requires within { self.old.rest.at ≤ length self.old.rest.text.now }
+        ensures answers { FieldsAnswer kind self.old.rest.text.now self.old.rest.at self.new.rest.at result }
+        ensures same { self.new.rest.text ≡ self.old.rest.text }
+    {
+        match kind {
+            Kind::Slope => self.slope(),
+            Kind::Announce => self.announce(),
+            Kind::Withdraw => self.withdraw(),
+            Kind::Sample => self.sample(),
+            Kind::Release => Ok(Call::Release),
+        }
     }
-}
 
-fn slope_behind(line: &[u8], at: usize) -> Result<(Call, usize), CallFault>
-    ensures { FieldsAnswer OfSlope line.now at result }
-{
-    let (place, at) = amount_at(line, at, AmountKey::Place)?;
-    let (grade, at) = grade_at(line, at)?;
-    let place = Distance { millimetres: place };
-    let grade = Grade { thousandths: grade };
-    Ok((Call::Slope { place, grade }, at))
-}
+    fn slope(&mut self) -> Result<Call, CallFault>
+        ensures answers { FieldsAnswer OfSlope self.old.rest.text.now self.old.rest.at self.new.rest.at result }
+        ensures same { self.new.rest.text ≡ self.old.rest.text }
+    {
+        Ok(Call::Slope {
+            place: Distance {
+                millimetres: self.amount(AmountKey::Place)?,
+            },
+            grade: Grade {
+                thousandths: self.grade()?,
+            },
+        })
+    }
 
-fn announce_behind(line: &[u8], at: usize) -> Result<(Call, usize), CallFault>
-    ensures { FieldsAnswer OfAnnounce line.now at result }
-{
-    let (number, at) = number_at(line, at)?;
-    let (point, at) = amount_at(line, at, AmountKey::Point)?;
-    let (distance, at) = amount_at(line, at, AmountKey::Distance)?;
-    let (speed, at) = amount_at(line, at, AmountKey::Speed)?;
-    let point = Distance { millimetres: point };
-    let distance = Distance {
-        millimetres: distance,
-    };
-    let speed = Speed { tenths: speed };
-    Ok((
-        Call::Announce {
-            number,
-            point,
-            distance,
-            speed,
-        },
-        at,
-    ))
-}
+    fn announce(&mut self) -> Result<Call, CallFault>
+        ensures answers { FieldsAnswer OfAnnounce self.old.rest.text.now self.old.rest.at self.new.rest.at result }
+        ensures same { self.new.rest.text ≡ self.old.rest.text }
+    {
+        Ok(Call::Announce {
+            number: self.number()?,
+            point: Distance {
+                millimetres: self.amount(AmountKey::Point)?,
+            },
+            distance: Distance {
+                millimetres: self.amount(AmountKey::Distance)?,
+            },
+            speed: Speed {
+                tenths: self.amount(AmountKey::Speed)?,
+            },
+        })
+    }
 
-fn withdraw_behind(line: &[u8], at: usize) -> Result<(Call, usize), CallFault>
-    ensures { FieldsAnswer OfWithdraw line.now at result }
-{
-    let (number, at) = number_at(line, at)?;
-    Ok((Call::Withdraw { number }, at))
-}
+    fn withdraw(&mut self) -> Result<Call, CallFault>
+        ensures answers { FieldsAnswer OfWithdraw self.old.rest.text.now self.old.rest.at self.new.rest.at result }
+        ensures same { self.new.rest.text ≡ self.old.rest.text }
+    {
+        Ok(Call::Withdraw {
+            number: self.number()?,
+        })
+    }
 
-fn sample_behind(line: &[u8], at: usize) -> Result<(Call, usize), CallFault>
-    ensures { FieldsAnswer OfSample line.now at result }
-{
-    let (place, at) = amount_at(line, at, AmountKey::Place)?;
-    let (speed, at) = amount_at(line, at, AmountKey::Speed)?;
-    let place = Distance { millimetres: place };
-    let speed = Speed { tenths: speed };
-    Ok((Call::Sample { place, speed }, at))
+    fn sample(&mut self) -> Result<Call, CallFault>
+        ensures answers { FieldsAnswer OfSample self.old.rest.text.now self.old.rest.at self.new.rest.at result }
+        ensures same { self.new.rest.text ≡ self.old.rest.text }
+    {
+        Ok(Call::Sample {
+            place: Distance {
+                millimetres: self.amount(AmountKey::Place)?,
+            },
+            speed: Speed {
+                tenths: self.amount(AmountKey::Speed)?,
+            },
+        })
+    }
 }

@@ -1,9 +1,12 @@
-ghost use Rattle.std.specs.Prelude.{◌≡◌};
+ghost use Rattle.std.specs.Prelude.{◌≡◌, Some};
+ghost use Rattle.sheet_text.specs.Faults.{answer_text};
 ghost use Rattle.call_text.specs.Faults.{fault_byte, layer_of, number};
 
 use crate::call_fault::CallFault;
 use fields::ValueFault;
 use sheet_text::Layer;
+use std::error::Error;
+use std::fmt;
 
 impl CallFault {
     // The number that stands for the fault.
@@ -26,8 +29,7 @@ impl CallFault {
             CallFault::Field(ValueFault::OtherKey(_)) => 0,
             CallFault::Field(fault) => fault.byte(),
             CallFault::UnknownCall => 0,
-            CallFault::NumberTooLarge(byte) => byte,
-            CallFault::LeftOver(byte) => byte,
+            CallFault::NumberTooLarge(byte) | CallFault::LeftOver(byte) => byte,
         }
     }
 
@@ -36,10 +38,22 @@ impl CallFault {
         ensures { result ≡ layer_of self }
     {
         match self {
-            CallFault::Field(_) => Layer::Text,
-            CallFault::UnknownCall => Layer::Text,
+            CallFault::Field(_) | CallFault::UnknownCall => Layer::Text,
             CallFault::NumberTooLarge(_) => Layer::Value,
             CallFault::LeftOver(_) => Layer::Sheet,
         }
     }
 }
+
+impl fmt::Display for CallFault {
+    ghost output = { λ fault. Some (answer_text (number fault) (fault_byte fault) (layer_of fault)) };
+
+    fn fmt<W: fmt::Write>(&self, f: &mut fmt::Formatter<W>) -> fmt::Result {
+        let number = self.number();
+        let byte = self.byte();
+        let layer = self.layer();
+        write!(f, "answer={number} byte={byte} layer={layer}")
+    }
+}
+
+impl Error for CallFault {}

@@ -1,39 +1,35 @@
-ghost use Rattle.std.specs.Prelude.{◌≡◌, Decides};
-ghost use Rattle.call_text.specs.CallTexts.{space};
+ghost use Rattle.std.specs.Prelude.{◌≡◌};
 ghost use Rattle.call_text.specs.LineFields.{EndsBehind, SpanAnswers};
 
 use crate::key::Key;
-use fields::{Span, ValueFault, field_between};
+use fields::{Cursor, Span, ValueFault, first_of};
 
-fn is_space(byte: u8) -> bool
-    ensures { Decides result (byte ≡ space) }
-{
-    byte == b' '
+// The fields of a line that are still to be read.
+#[derive(Drop)]
+pub(crate) struct Fields<'a> {
+    pub(crate) rest: Cursor<'a>,
+}
+
+impl<'a> Fields<'a> {
+    // The value of the next field, which has this key.
+    pub(crate) fn value(&mut self, key: Key) -> Result<Span<'a>, ValueFault>
+        ensures answers { SpanAnswers key self.old.rest.text.now self.old.rest.at self.new.rest.at result }
+        ensures same { self.new.rest.text ≡ self.old.rest.text }
+    {
+        let end = field_end(self.rest.text, self.rest.at);
+        let field = self.rest.field_between(end, key.lead(), key.due())?;
+        self.rest.at = end;
+        Ok(field.span())
+    }
 }
 
 // Where the field ends that begins at a byte: at the next space behind that byte, or where the line ends.
 fn field_end(line: &[u8], at: usize) -> usize
     ensures { EndsBehind line.now at result }
 {
-    for i in at.saturating_add(1)..line.len() {
-        if is_space(line[i]) {
-            return i;
-        }
-    }
-    line.len()
-}
-
-// The value of a key in the line from a byte on, and the byte behind it.
-pub(crate) fn value_at<'a>(
-    line: &'a [u8],
-    at: usize,
-    key: Key,
-) -> Result<(Span<'a>, usize), ValueFault>
-    ensures { SpanAnswers key line.now at result }
-{
-    let end = field_end(line, at);
-    match field_between(line, at, end, key.lead(), key.due()) {
-        Ok(field) => Ok((field.span(), end)),
-        Err(fault) => Err(fault),
+    let (first, behind) = line.split_at(line.len().min(at.saturating_add(1)));
+    match first_of(behind, b' ') {
+        Some(before) => first.len() + before,
+        None => line.len(),
     }
 }

@@ -1,10 +1,11 @@
-ghost use Rattle.std.specs.Prelude.{◌≡◌, Decides};
-ghost use Rattle.call_text.specs.CallTexts.{lead_of, due_of};
-ghost use Rattle.call_text.specs.LineFields.{KindRead};
+ghost use Rattle.std.specs.Prelude.{◌≡◌};
+ghost use Rattle.call_text.specs.CallTexts.{lead_of, due_of, word_of};
+ghost use Rattle.call_text.specs.Kinds.{kinds, kinds_complete};
 
 use crate::key::{AmountKey, Key};
 use crate::kind::Kind;
 use fields::Due;
+use sheet_text::Word;
 
 // How many digits a number may have.
 pub(crate) const MOST_DIGITS: usize = 10;
@@ -38,27 +39,30 @@ impl Key {
     }
 }
 
-fn is(word: &[u8], text: &[u8]) -> bool
-    ensures { Decides result (word.now ≡ text.now) }
-{
-    word == text
-}
+impl Word for Kind {
+    ghost text = { word_of };
 
-// The call whose word this is.
-pub(crate) fn kind_named(word: &[u8]) -> Option<Kind>
-    ensures { KindRead word.now result }
-{
-    if is(word, b"slope") {
-        Some(Kind::Slope)
-    } else if is(word, b"announce") {
-        Some(Kind::Announce)
-    } else if is(word, b"withdraw") {
-        Some(Kind::Withdraw)
-    } else if is(word, b"sample") {
-        Some(Kind::Sample)
-    } else if is(word, b"release") {
-        Some(Kind::Release)
-    } else {
-        None
+    ghost listed = { kinds };
+
+    ghost complete = { kinds_complete };
+
+    fn word(self) -> &'static [u8] {
+        match self {
+            Kind::Slope => b"slope",
+            Kind::Announce => b"announce",
+            Kind::Withdraw => b"withdraw",
+            Kind::Sample => b"sample",
+            Kind::Release => b"release",
+        }
+    }
+
+    fn all() -> &'static [Kind] {
+        &[
+            Kind::Slope,
+            Kind::Announce,
+            Kind::Withdraw,
+            Kind::Sample,
+            Kind::Release,
+        ]
     }
 }

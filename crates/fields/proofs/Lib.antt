@@ -1,2 +1,3 @@
-mod KeyedParts
+pub mod Ending
+pub mod Firsts
 mod Signs

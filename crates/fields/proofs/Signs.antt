@@ -1,10 +1,9 @@
 -- A number with a minus in front of it is told from one without.
-use Rattle.std.proofs.Common.{◌≡◌, ℕ, suc, ◌-◌, ◌<◌, List, [], ◌∷◌, length, get_or, take, drop, ℤ, pos, negsuc, Some, None, Option, sym, ap, ◌∙◌, subst, arith}
+use Rattle.std.proofs.Common.{◌≡◌, ℕ, suc, ◌-◌, ◌<◌, List, ◌∷◌, get_or, ℤ, pos, negsuc, Some, None, Option, sym, ap, subst, arith}
 use Rattle.numerals.specs.Numerals.{Writes}
 use Rattle.numerals.proofs.Plainness.{writes_plain}
-use Rattle.std.proofs.lemmas.List.{take_all}
 use Rattle.fields.specs.Fields.{SignedForm}
-use Rattle.fields.specs.Signed.{WritesSigned, ReadSigned, HasMinus, Negated}
+use Rattle.fields.specs.Signed.{WritesSigned, ReadSigned, Negated}
 
 -- a number without a sign does not begin with a minus
 not_minus : (most n : ℕ) (bytes : List ℕ) → Writes most n bytes → get_or bytes 0 0 ≡ 45 → ⊥
@@ -29,19 +28,11 @@ above_zero most n bytes digits e w s =
 never : (most : ℕ) (bytes digits : List ℕ) → bytes ≡ 45 ∷ digits → ((n : ℕ) → Writes most n digits → ⊥) → SignedForm most bytes → ⊥
 never most bytes digits e none s = let b = behind_minus most bytes digits e s in none (suc b.0) b.1
 
--- what stands behind the minus
-abbrev pub rest_of : List ℕ → List ℕ
-rest_of bytes = take (length bytes - 1) (drop 1 bytes)
+pub none_behind : (most : ℕ) (bytes digits : List ℕ) → bytes ≡ 45 ∷ digits → ((n : ℕ) → Writes most n digits → ⊥) → ReadSigned most bytes None
+none_behind most bytes digits e none z w = never most bytes digits e none (z, w)
 
-parted : (bytes : List ℕ) → HasMinus bytes → bytes ≡ 45 ∷ rest_of bytes
-parted [] h = absurd h
-parted (b ∷ bytes) h = ap (λ (x : ℕ). x ∷ bytes) h ∙ ap (λ (t : List ℕ). 45 ∷ t) (sym (take_all (length (b ∷ bytes) - 1) bytes (omega arith)))
-
-pub none_behind : (most : ℕ) (bytes : List ℕ) → HasMinus bytes → ((n : ℕ) → Writes most n (rest_of bytes) → ⊥) → ReadSigned most bytes None
-none_behind most bytes h none z w = never most bytes (rest_of bytes) (parted bytes h) none (z, w)
-
-pub number_behind : (most n : ℕ) (bytes : List ℕ) (r : Option ℤ) → HasMinus bytes → Writes most n (rest_of bytes) → Negated n r → ReadSigned most bytes r
-number_behind most n bytes (Some z) h w is =
+pub number_behind : (most n : ℕ) (bytes digits : List ℕ) (r : Option ℤ) → bytes ≡ 45 ∷ digits → Writes most n digits → Negated n r → ReadSigned most bytes r
+number_behind most n bytes digits (Some z) e w is =
     let k : n ≡ suc (n - 1) = omega (arith, is.0) in
-    subst (λ (y : ℤ). WritesSigned most y bytes) (sym is.1) (rest_of bytes, parted bytes h, subst (λ (m : ℕ). Writes most m (rest_of bytes)) k w)
-number_behind most n bytes None h w is = λ z s. omega (arith, is, above_zero most n bytes (rest_of bytes) (parted bytes h) w (z, s))
+    subst (λ (y : ℤ). WritesSigned most y bytes) (sym is.1) (digits, e, subst (λ (m : ℕ). Writes most m digits) k w)
+number_behind most n bytes digits None e w is = λ z s. omega (arith, is, above_zero most n bytes digits e w (z, s))

@@ -1,5 +1,5 @@
 -- The value behind a key, in the form that is due.
-use Rattle.std.specs.Prelude.{◌≡◌, ℕ, ◌+◌, ◌≤◌, List, length, drop, ℤ, Some, None, Ok, Err, Option, Result}
+use Rattle.std.specs.Prelude.{◌≡◌, ℕ, ◌+◌, List, length, drop, ℤ, Ok, Err, Result}
 use Rattle.numerals.specs.Numerals.{Writes}
 use Rattle.fields.specs.Keys.{Keyed}
 use Rattle.fields.specs.Lines.{Begins, NoFeed}
@@ -12,7 +12,6 @@ use Rattle.fields.specs.declared.faults.TextFault.TheVariants.{NoLineFeed}
 use Rattle.fields.specs.declared.faults.ValueFault.{ValueFault}
 use Rattle.fields.specs.declared.faults.ValueFault.TheVariants.{Text, OtherKey, BadValue}
 use Rattle.fields.specs.declared.span.Span.{Span}
-use Rattle.std.specs.List.{between}
 
 -- The value is a number of either sign.
 abbrev pub SignedForm : (most : ℕ) → List ℕ → Type 0
@@ -47,11 +46,6 @@ Of (Number most) (SignedField s) = ⊥
 Of (Signed most) (WordField s) = ⊥
 Of (Signed most) (NumberField s) = ⊥
 Of (Signed most) (SignedField s) = Unit {0}
-
--- The byte of the value behind a key, in the part of a text from one byte up to another.
-abbrev pub Behind : (text : List ℕ) (from end : ℕ) (key : List ℕ) → Option ℕ → Type 0
-Behind text from end key (Some b) = (b ≡ from + length key + 1) × (b ≤ end) × Keyed key (between from end text) (between b end text)
-Behind text from end key None = (value : List ℕ) → Keyed key (between from end text) value → ⊥
 
 -- What a part of a text, beginning at a byte, answers for a key: its field, or the first question with a no.
 abbrev pub Answers : (part : List ℕ) (byte : ℕ) (key : List ℕ) → Due → Result Field ValueFault → Type 0

@@ -1,9 +1,8 @@
 -- The line at the front of a text.
-use Rattle.std.specs.Prelude.{◌≡◌, ℕ, ◌<◌, ◌≤◌, List, ◌∷◌, ◌++◌, length, drop, Ok, Err, Result, ◌≢◌, slice_index}
-use Rattle.std.specs.List.{between}
+use Rattle.std.specs.Prelude.{◌≡◌, ℕ, ◌<◌, List, ◌∷◌, ◌++◌, length, drop, Ok, Err, Result, ◌≢◌, slice_index}
 use Rattle.fields.specs.declared.faults.TextFault.{TextFault}
 use Rattle.fields.specs.declared.faults.TextFault.TheVariants.{NoLineFeed}
-use Rattle.fields.specs.declared.line.Line.{Line}
+use Rattle.fields.specs.declared.span.Span.{Span}
 
 -- The byte of a line feed.
 abbrev pub feed : ℕ
@@ -20,6 +19,11 @@ abbrev pub NoFeed : (window : ℕ) → List ℕ → Type 0
 NoFeed window bytes = (k : ℕ) → k < window → k < length bytes → slice_index bytes k ≢ feed
 
 -- The line of a text from a byte on, or that there is none.
-abbrev pub Cut : List ℕ → (at window : ℕ) → Result Line TextFault → Type 0
-Cut text at window (Ok l) = (l.start ≡ at) × (at ≤ l.end) × (l.end < length text) × Begins window (drop at text) (between at l.end text)
+abbrev pub Cut : List ℕ → (at window : ℕ) → Result Span TextFault → Type 0
+Cut text at window (Ok l) = (l.byte ≡ at) × Begins window (drop at text) l.bytes.now
 Cut text at window (Err e) = (e ≡ NoLineFeed at) × NoFeed window (drop at text)
+
+-- Nothing of a text is left over from a byte on, or that byte.
+abbrev pub Ended : List ℕ → ℕ → Result (Unit {0}) ℕ → Type 0
+Ended text at (Ok u) = at ≡ length text
+Ended text at (Err b) = (b ≡ at) × (at ≢ length text)

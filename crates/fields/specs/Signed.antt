@@ -1,5 +1,5 @@
 -- Numbers of either sign, as bytes.
-use Rattle.std.specs.Prelude.{◌≡◌, ℕ, suc, ◌-◌, ◌<◌, List, [], ◌∷◌, ℤ, pos, negsuc, Some, None, Option}
+use Rattle.std.specs.Prelude.{◌≡◌, ℕ, suc, ◌-◌, ◌<◌, List, ◌∷◌, ℤ, pos, negsuc, Some, None, Option}
 use Rattle.numerals.specs.Numerals.{Writes}
 
 -- The byte of a minus.
@@ -15,11 +15,6 @@ WritesSigned most (negsuc n) bytes = (digits : List ℕ) × (bytes ≡ minus ∷
 abbrev pub ReadSigned : (most : ℕ) → List ℕ → Option ℤ → Type 0
 ReadSigned most bytes (Some z) = WritesSigned most z bytes
 ReadSigned most bytes None = (z : ℤ) → WritesSigned most z bytes → ⊥
-
--- The first byte is a minus.
-abbrev pub HasMinus : List ℕ → Type 0
-HasMinus [] = ⊥
-HasMinus (b ∷ bytes) = b ≡ minus
 
 -- A number below zero, unless it is 0.
 abbrev pub Negated : ℕ → Option ℤ → Type 0

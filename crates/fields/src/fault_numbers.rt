@@ -20,9 +20,9 @@ impl ValueFault {
         ensures { result ≡ fault_byte self }
     {
         match self {
-            ValueFault::Text(TextFault::NoLineFeed(byte)) => byte,
-            ValueFault::OtherKey(byte) => byte,
-            ValueFault::BadValue(byte) => byte,
+            ValueFault::Text(TextFault::NoLineFeed(byte))
+            | ValueFault::OtherKey(byte)
+            | ValueFault::BadValue(byte) => byte,
         }
     }
 }

@@ -2,14 +2,14 @@ ghost use Rattle.std.specs.Prelude.{◌≡◌};
 ghost use Rattle.fields.specs.declared.faults.ValueFault.TheVariants.{Text as OfText};
 
 // Why a text could not be cut.
-#[derive(Clone, Copy)]
+#[derive(Clone, Copy, Debug, PartialEq, Eq)]
 pub enum TextFault {
     // no line feed in the window from this byte on
     NoLineFeed(usize),
 }
 
 // Why a field could not be read.
-#[derive(Clone, Copy)]
+#[derive(Clone, Copy, Debug, PartialEq, Eq)]
 pub enum ValueFault {
     Text(TextFault),
     // the line, or the part of it, that begins at this byte does not begin with the due key and an equals sign

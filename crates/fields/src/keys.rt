@@ -1,24 +1,18 @@
-ghost use Rattle.std.specs.Prelude.{◌≡◌, ℕ, true, List, Decides};
-ghost use Rattle.fields.specs.Keys.{Keyed, equals};
+ghost use Rattle.std.specs.Prelude.{◌≡◌, ℕ, true, List, IfNone, IfSome};
+ghost use Rattle.fields.specs.Keys.{Keyed};
 
 // Whether a line begins with a key and an equals sign.
 pub fn begins_with(line: &[u8], key: &[u8]) -> bool
     ensures holds { result ≡ true → ((value : List ℕ) × Keyed key.now line.now value) }
     ensures only { (value : List ℕ) → Keyed key.now line.now value → result ≡ true }
 {
-    if line.len() <= key.len() {
-        return false;
-    }
-    for i in 0..key.len() {
-        if line[i] != key[i] {
-            return false;
-        }
-    }
-    is_equals(line[key.len()])
+    value_behind(line, key).is_some()
 }
 
-fn is_equals(byte: u8) -> bool
-    ensures { Decides result (byte ≡ equals) }
+// The value of a line that begins with a key and an equals sign.
+pub fn value_behind<'a>(line: &'a [u8], key: &[u8]) -> Option<&'a [u8]>
+    ensures some { IfSome result (λ value. Keyed key.now line.now value.now) }
+    ensures none { IfNone result ((value : List ℕ) → Keyed key.now line.now value → ⊥) }
 {
-    byte == b'='
+    line.strip_prefix(key)?.strip_prefix(b"=")
 }

@@ -1,23 +1,22 @@
 #![tactic(auto)]
 
-mod cutting;
+mod cursor;
 mod due;
 mod fault_numbers;
 mod faults;
 mod field;
+mod first_byte;
+mod forms;
 mod keys;
-mod line;
-mod reading;
 mod signed;
 mod span;
 mod spans;
 
-pub use cutting::cut;
+pub use cursor::Cursor;
 pub use due::Due;
 pub use faults::{TextFault, ValueFault};
 pub use field::Field;
-pub use keys::begins_with;
-pub use line::Line;
-pub use reading::{field_between, read_field};
+pub use first_byte::first_of;
+pub use keys::{begins_with, value_behind};
 pub use signed::read_signed;
 pub use span::Span;

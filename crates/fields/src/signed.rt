@@ -1,5 +1,5 @@
-ghost use Rattle.std.specs.Prelude.{◌^◌, ◌<◌, Decides};
-ghost use Rattle.fields.specs.Signed.{HasMinus, Negated, ReadSigned};
+ghost use Rattle.std.specs.Prelude.{◌^◌, ◌<◌};
+ghost use Rattle.fields.specs.Signed.{Negated, ReadSigned};
 
 use numerals::read_number;
 
@@ -7,21 +7,9 @@ use numerals::read_number;
 pub fn read_signed(bytes: &[u8], most: usize) -> Option<i64>
     ensures { ReadSigned most bytes.now result }
 {
-    if !has_minus(bytes) {
-        let number = read_number(bytes, most)?;
-        return Some(number as i64);
-    }
-    let number = read_number(&bytes[1..], most)?;
-    negated(number)
-}
-
-// Whether the first byte is a minus.
-fn has_minus(bytes: &[u8]) -> bool
-    ensures { Decides result (HasMinus bytes.now) }
-{
-    match bytes.first() {
-        Some(byte) => *byte == b'-',
-        None => false,
+    match bytes.strip_prefix(b"-") {
+        Some(digits) => negated(read_number(digits, most)?),
+        None => Some(read_number(bytes, most)? as i64),
     }
 }
 
@@ -30,8 +18,5 @@ fn negated(number: u64) -> Option<i64>
     requires { number < 10 ^ 10 }
     ensures { Negated number result }
 {
-    if number == 0 {
-        return None;
-    }
-    Some(-1 - ((number - 1) as i64))
+    (number != 0).then_some(-(number as i64))
 }

@@ -10,9 +10,7 @@ impl<'a> Field<'a> {
         ensures { result ≡ span_of self.entry }
     {
         match self {
-            Field::Word(span) => span,
-            Field::Number(span) => span,
-            Field::Signed(span) => span,
+            Field::Word(span) | Field::Number(span) | Field::Signed(span) => span,
         }
     }
 }

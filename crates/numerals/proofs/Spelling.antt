@@ -26,3 +26,8 @@ many (suc j) (suc k) n behind big turns = cond_both (eqb (n / 10) 0) (longer n b
 pub under_ten_digits : (n : ℕ) → length (decimal n) ≤ 10 → n < 10 ^ 10
 unfolding digits
 under_ten_digits n h = ⊎_elim (λ l. l) (λ l. absurd (omega (arith, many 10 64 n [] l (omega arith)))) (cases_lt n (10 ^ 10))
+
+-- a number from 10 ^ j on has more than j digits
+pub more_digits : (j n : ℕ) → 10 ^ j ≤ n → j < 64 → j < length (decimal n)
+unfolding digits
+more_digits j n big turns = omega (arith, many j 64 n [] big turns)

@@ -5,11 +5,7 @@ ghost use Rattle.numerals.specs.Digits.{Stands};
 pub(crate) fn digit_value(byte: u8) -> Option<u8>
     ensures { Stands byte result }
 {
-    if byte >= b'0' && byte <= b'9' {
-        Some(byte - b'0')
-    } else {
-        None
-    }
+    byte.checked_sub(b'0').filter(|digit| *digit <= 9)
 }
 
 // The byte of the last digit of a number.

@@ -1,4 +1,4 @@
-ghost use Rattle.std.specs.Prelude.{◌≡◌, ◌+◌, ◌*◌, ◌^◌, ◌<◌, ◌≤◌, length, Decides};
+ghost use Rattle.std.specs.Prelude.{◌≡◌, ◌≤◌, ◌↔◌, IsTrue, length};
 ghost use Rattle.numerals.specs.Digits.{Makes};
 ghost use Rattle.numerals.specs.Numerals.{Read, ReadPlain, Sized, Small, ZeroLeads};
 ghost use Rattle.numerals.specs.Laws.{There, Back};
@@ -31,16 +31,16 @@ fn read_plain(bytes: &[u8], most: usize) -> Option<u64>
 
 // Whether so many digits are read.
 fn is_sized(count: usize, most: usize) -> bool
-    ensures { Decides result (Sized most count) }
+    ensures { IsTrue result ↔ Sized most count }
 {
-    count >= 1 && count <= most && count <= MOST_DIGITS
+    (1..=most.min(MOST_DIGITS)).contains(&count)
 }
 
 // Whether a 0 stands in front of further bytes.
 fn zero_leads(bytes: &[u8]) -> bool
-    ensures { Decides result (ZeroLeads bytes.now) }
+    ensures { IsTrue result ↔ ZeroLeads bytes.now }
 {
-    bytes.len() > 1 && bytes[0] == b'0'
+    matches!(bytes, [b'0', _, ..])
 }
 
 // The value of the bytes, if all are digits.
@@ -50,19 +50,7 @@ fn read_digits(bytes: &[u8]) -> Option<u64>
 {
     let mut number = 0;
     for byte in bytes {
-        let Some(digit) = digit_value(*byte) else {
-            return None;
-        };
-        number = with_digit(number, digit);
+        number = number * 10 + u64::from(digit_value(*byte)?);
     }
     Some(number)
-}
-
-// The number with one more digit behind it.
-fn with_digit(number: u64, digit: u8) -> u64
-    requires short { number < 10 ^ 9 }
-    requires one { digit < 10 }
-    ensures { result ≡ number * 10 + digit }
-{
-    number * 10 + digit as u64
 }

@@ -6,11 +6,5 @@ pub fn digits_of(number: u64) -> usize
     ensures some { 1 ≤ result }
     ensures few { result ≤ 20 }
 {
-    let mut left = number;
-    let mut count = 1;
-    while left >= 10 {
-        left /= 10;
-        count += 1;
-    }
-    count
+    number.max(1).ilog10() as usize + 1
 }

@@ -17,9 +17,7 @@ pub fn write_number(out: &mut [u8], at: usize, number: u64) -> Option<usize>
 fn write_fitting(out: &mut [u8], at: usize, number: u64) -> Option<usize>
     ensures { Written out.old at number out.new result }
 {
-    let Some(end) = end_within(out.len(), at, digits_of(number)) else {
-        return None;
-    };
+    let end = end_within(out.len(), at, digits_of(number))?;
     put_digits(out, at, end, number);
     Some(end)
 }
@@ -28,14 +26,11 @@ fn write_fitting(out: &mut [u8], at: usize, number: u64) -> Option<usize>
 fn end_within(room: usize, at: usize, count: usize) -> Option<usize>
     ensures { Ends room at count result }
 {
-    if at <= room && count <= room - at {
-        Some(at + count)
-    } else {
-        None
-    }
+    at.checked_add(count).filter(|end| *end <= room)
 }
 
 // Writes all digits of the number from `at` to `end`, the last one first.
+// The loop has an index, since a proof knows nothing of what an `iter_mut().rev()` wrote.
 fn put_digits(out: &mut [u8], at: usize, end: usize, number: u64)
     requires all { end ≡ at + length (decimal number) }
     requires fits { end ≤ length out.old }

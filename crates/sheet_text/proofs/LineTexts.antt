@@ -1,8 +1,11 @@
 -- A line that was read is the text of its entry.
-use Rattle.std.proofs.Common.{◌≡◌, ℕ, ◌+◌, ◌≤◌, List, [], ◌∷◌, ◌++◌, length, drop, Ok, sym, refl, ap, ◌∙◌, append_assoc, arith, length-drop}
+use Rattle.std.proofs.Common.{◌≡◌, ℕ, ◌+◌, ◌≤◌, List, [], ◌∷◌, ◌++◌, length, drop, Ok, sym, refl, ap, ◌∙◌, subst, append_assoc, arith, length-drop}
 use Rattle.std.proofs.lemmas.List.{drop-drop, drop_at, length-append}
+use Rattle.fields.specs.Fields.{span_of, value_of, byte_of}
 use Rattle.fields.specs.Keys.{Keyed}
 use Rattle.fields.specs.Lines.{Begins}
+use Rattle.fields.specs.declared.field.Field.{Field}
+use Rattle.fields.specs.declared.span.Span.{Span}
 use Rattle.sheet_text.specs.Entries.{key_of, name_of, value_text, line_text}
 use Rattle.sheet_text.specs.Reading.{Ranged, LineAnswers}
 use Rattle.sheet_text.specs.declared.entry.Entry.{Entry}
@@ -30,7 +33,7 @@ behind_front text front rest at e some = (
 )
 
 pub entry_read : (text : List ℕ) (at : ℕ) (k : Key) (e : Entry) (name value line : List ℕ) (byte : ℕ) → name ≡ name_of k → key_of e ≡ k → value ≡ value_text e → Ranged e →
-    Begins 32 (drop at text) line → Keyed name line value → byte ≡ at + length name + 1 → LineAnswers k text at (Ok (e, byte + length value + 1))
+    Begins 32 (drop at text) line → Keyed name line value → byte ≡ at + length name + 1 → LineAnswers k text at (byte + length value + 1) (Ok e)
 entry_read text at k e name value line byte is_name is_key is-value ranged begins keyed is_byte_lem =
     let front : drop at text ≡ full name value ++ begins.behind.0 = in_front (drop at text) name value line begins.behind.0 begins.behind.1 keyed in
     let size = full_length name value in
@@ -43,3 +46,11 @@ entry_read text at k e name value line byte is_name is_key is-value ranged begin
       omega (arith, rest.0),
       front ∙ (ap (λ (t : List ℕ). full name value ++ t) (rest.1 ∙ ap (λ (n : ℕ). drop n text) (sym next)) ∙ ap (λ (t : List ℕ). t ++ drop (byte + length value + 1) text) is_text),
     )
+
+-- the same of a field's span
+pub span_read : (text : List ℕ) (at : ℕ) (k : Key) (e : Entry) (f : Field) (s : Span) (name line : List ℕ) → s ≡ span_of f → name ≡ name_of k → key_of e ≡ k → s.bytes.now ≡ value_text e → Ranged e →
+    Begins 32 (drop at text) line → Keyed name line (value_of f) → byte_of f ≡ at + length name + 1 → LineAnswers k text at (s.byte + length s.bytes.now + 1) (Ok e)
+span_read text at k e f s name line is named keyed value ranged begins holds place =
+    entry_read text at k e name s.bytes.now line s.byte named keyed value ranged begins
+    (subst (λ (t : Span). Keyed name line t.bytes.now) (sym is) holds)
+    (subst (λ (t : Span). t.byte ≡ at + length name + 1) (sym is) place)

@@ -37,7 +37,7 @@ puts_push : (es : List Entry) (e : Entry) (v : Values) → puts (es ++ e ∷ [])
 puts_push [] e v = refl
 puts_push (x ∷ es) e v = puts_push es e (put x v)
 
-pub step : (text : List ℕ) (i at next : ℕ) (v : Values) (d : Key) (e : Entry) → Progress text i at v → i < 12 → LineAnswers (get_or keys i d) text at (Ok (e, next)) → Progress text (i + 1) next (put e v)
+pub step : (text : List ℕ) (i at next : ℕ) (v : Values) (d : Key) (e : Entry) → Progress text i at v → i < 12 → LineAnswers (get_or keys i d) text at next (Ok e) → Progress text (i + 1) next (put e v)
 step text i at next v d e p h a = record {
   done = p.done ++ e ∷ [];
   in_order = keys_push p.done e ∙ (ap (λ (ks : List Key). ks ++ key_of e ∷ []) p.in_order ∙ (ap (λ (j : Key). take i keys ++ j ∷ []) a.0 ∙ sym (take_more keys i d h)));

@@ -1,5 +1,5 @@
 -- The number, the byte and the layer of each fault of a sheet.
-use Rattle.std.specs.Prelude.{ℕ, List, codes}
+use Rattle.std.specs.Prelude.{ℕ, List, ◌++◌, codes, decimal}
 use Rattle.fields.specs.Faults.{number as number_below, fault_byte as byte_below}
 use Rattle.sheet_text.specs.declared.faults.SheetFault.{SheetFault}
 use Rattle.sheet_text.specs.declared.faults.SheetFault.TheVariants.{Value, OutOfRange, LeftOver, GoodsBrake}
@@ -28,3 +28,7 @@ abbrev pub layer_word : Layer → List ℕ
 layer_word TextLayer = codes "text"
 layer_word ValueLayer = codes "value"
 layer_word SheetLayer = codes "sheet"
+
+-- What is printed of a fault, whatever was read.
+abbrev pub answer_text : (number byte : ℕ) → Layer → List ℕ
+answer_text n b layer = codes "answer=" ++ (decimal n ++ (codes " byte=" ++ (decimal b ++ (codes " layer=" ++ layer_word layer))))

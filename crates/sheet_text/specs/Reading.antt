@@ -80,7 +80,7 @@ LineFault k text at (OutOfRange b) =
 LineFault k text at (LeftOver b) = ⊥
 LineFault k text at GoodsBrake = ⊥
 
--- What the line of a key, from a byte of the text on, answers: its entry and the byte behind it, or its fault.
-abbrev pub LineAnswers : Key → (text : List ℕ) (at : ℕ) → Result (Entry × ℕ) SheetFault → Type 0
-LineAnswers k text at (Ok r) = (key_of r.0 ≡ k) × Ranged r.0 × (r.1 ≡ at + length (line_text r.0)) × (r.1 ≤ length text) × (drop at text ≡ line_text r.0 ++ drop r.1 text)
-LineAnswers k text at (Err f) = LineFault k text at f
+-- What the line of a key, from a byte of the text on, answers: its entry, with the byte behind it as the next one, or its fault.
+abbrev pub LineAnswers : Key → (text : List ℕ) (at next : ℕ) → Result Entry SheetFault → Type 0
+LineAnswers k text at next (Ok e) = (key_of e ≡ k) × Ranged e × (next ≡ at + length (line_text e)) × (next ≤ length text) × (drop at text ≡ line_text e ++ drop next text)
+LineAnswers k text at next (Err f) = LineFault k text at f

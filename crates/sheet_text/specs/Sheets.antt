@@ -64,20 +64,16 @@ pub record Fronts (text : List ℕ) (v : Values) (end : ℕ) : Type 0 where
   pub ends : end ≡ length (written v)
   pub within : end ≤ length text
 
-abbrev pub FrontAnswers : List ℕ → Result (Values × ℕ) SheetFault → Type 0
-FrontAnswers text (Ok r) = Fronts text r.0 r.1
-FrontAnswers text (Err f) = Stops text f
+-- What the lines of a text answer, with the byte behind the last as the next one.
+abbrev pub FrontAnswers : List ℕ → (next : ℕ) → Result Values SheetFault → Type 0
+FrontAnswers text next (Ok v) = Fronts text v next
+FrontAnswers text next (Err f) = Stops text f
 
 -- The text is that of this sheet.
 pub record IsText (text : List ℕ) (v : Values) : Type 0 where
   pub ranged : in_ranges v ≡ true
   pub allowed : brake_allowed v.train v.brake ≡ true
   pub same : text ≡ written v
-
--- Whether the text ends at a byte; if not, that byte is the first one left over.
-abbrev pub Ended : (text : List ℕ) (end : ℕ) → Result (Unit {0}) SheetFault → Type 0
-Ended text end (Ok u) = end ≡ length text
-Ended text end (Err f) = (f ≡ LeftOver end) × (end ≢ length text)
 
 -- Whether the brake stands with a train that it may stand with.
 abbrev pub BrakeAsked : Values → Result (Unit {0}) SheetFault → Type 0

@@ -2,18 +2,11 @@ ghost use Rattle.sheet_text.specs.Sheets.{AdmittedAnswers};
 
 use crate::faults::SheetFault;
 use crate::reading::read_sheet;
-use sheet::{Admitted, Draft, Rejected};
+use sheet::Admitted;
 
 // The admitted sheet that a text is the text of, or the first fault: admitting what was read refuses nothing.
 pub fn read_admitted(text: &[u8]) -> Result<Admitted, SheetFault>
     ensures { AdmittedAnswers text.now result }
 {
-    match read_sheet(text)?.admit() {
-        Ok(sheet) => Ok(sheet),
-        Err(rejected) => {
-            let Rejected { refusal: _, draft } = rejected;
-            let Draft { values: _ } = draft;
-            unreachable()
-        }
-    }
+    Ok(read_sheet(text)?.admit().unwrap())
 }

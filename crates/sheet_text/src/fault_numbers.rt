@@ -1,8 +1,10 @@
-ghost use Rattle.std.specs.Prelude.{◌≡◌};
-ghost use Rattle.sheet_text.specs.Faults.{fault_byte, layer_of, layer_word, number};
+ghost use Rattle.std.specs.Prelude.{◌≡◌, Some};
+ghost use Rattle.sheet_text.specs.Faults.{answer_text, fault_byte, layer_of, layer_word, number};
 
 use crate::faults::SheetFault;
 use crate::layer::Layer;
+use std::error::Error;
+use std::fmt;
 
 impl SheetFault {
     // The number that stands for the fault.
@@ -23,8 +25,7 @@ impl SheetFault {
     {
         match self {
             SheetFault::Value(fault) => fault.byte(),
-            SheetFault::OutOfRange(byte) => byte,
-            SheetFault::LeftOver(byte) => byte,
+            SheetFault::OutOfRange(byte) | SheetFault::LeftOver(byte) => byte,
             SheetFault::GoodsBrake => 0,
         }
     }
@@ -36,8 +37,7 @@ impl SheetFault {
         match self {
             SheetFault::Value(_) => Layer::Text,
             SheetFault::OutOfRange(_) => Layer::Value,
-            SheetFault::LeftOver(_) => Layer::Sheet,
-            SheetFault::GoodsBrake => Layer::Sheet,
+            SheetFault::LeftOver(_) | SheetFault::GoodsBrake => Layer::Sheet,
         }
     }
 }
@@ -54,3 +54,24 @@ impl Layer {
         }
     }
 }
+
+impl fmt::Display for Layer {
+    ghost output = { λ layer. Some (layer_word layer) };
+
+    fn fmt<W: fmt::Write>(&self, f: &mut fmt::Formatter<W>) -> fmt::Result {
+        f.write_str(self.word())
+    }
+}
+
+impl fmt::Display for SheetFault {
+    ghost output = { λ fault. Some (answer_text (number fault) (fault_byte fault) (layer_of fault)) };
+
+    fn fmt<W: fmt::Write>(&self, f: &mut fmt::Formatter<W>) -> fmt::Result {
+        let number = self.number();
+        let byte = self.byte();
+        let layer = self.layer();
+        write!(f, "answer={number} byte={byte} layer={layer}")
+    }
+}
+
+impl Error for SheetFault {}

@@ -4,7 +4,7 @@ ghost use Rattle.sheet_text.specs.declared.faults.SheetFault.TheVariants.{Value 
 use fields::ValueFault;
 
 // Why a train sheet could not be read.
-#[derive(Clone, Copy)]
+#[derive(Clone, Copy, Debug, PartialEq, Eq)]
 pub enum SheetFault {
     Value(ValueFault),
     // the value that begins at this byte is out of its range

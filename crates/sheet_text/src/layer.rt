@@ -1,5 +1,5 @@
 // Which of the readers a fault belongs to.
-#[derive(Clone, Copy)]
+#[derive(Clone, Copy, Debug, PartialEq, Eq)]
 pub enum Layer {
     Text,
     Value,

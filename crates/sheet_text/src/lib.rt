@@ -8,6 +8,7 @@ mod key;
 mod layer;
 mod reading;
 mod values;
+mod word;
 mod words;
 
 pub use admitting::read_admitted;
@@ -16,3 +17,4 @@ pub use faults::SheetFault;
 pub use key::{Key, WordKey};
 pub use layer::Layer;
 pub use reading::read_sheet;
+pub use word::{Word, read_word};

@@ -1,15 +1,13 @@
 ghost use Rattle.std.specs.Prelude.{◌≡◌};
 ghost use Rattle.sheet.specs.declared.values.Values.{Values};
-ghost use Rattle.fields.specs.Fields.{LineAnswers as FieldAnswers};
-ghost use Rattle.sheet_text.specs.Entries.{name_of};
-ghost use Rattle.sheet_text.specs.Reading.{LineAnswers, due_of, line_window};
-ghost use Rattle.sheet_text.specs.Sheets.{BrakeAsked, Ended, FrontAnswers, IsText, OneSheet, SheetAnswers, Taken, put, put_number};
+ghost use Rattle.sheet_text.specs.Reading.{LineAnswers, due_of};
+ghost use Rattle.sheet_text.specs.Sheets.{BrakeAsked, FrontAnswers, IsText, OneSheet, SheetAnswers, Taken, put, put_number};
 
 use crate::entry::Entry;
 use crate::faults::SheetFault;
 use crate::key::{Key, WordKey};
 use crate::values::MOST_DIGITS;
-use fields::{Due, Field, ValueFault, read_field};
+use fields::{Cursor, Due};
 use sheet::{Draft, LengthChoice, Model, NumberKey, Regime, Service, Values};
 
 // How many bytes a line may have with its line feed.
@@ -25,23 +23,18 @@ impl Key {
             Key::Number(_) => Due::Number(MOST_DIGITS),
         }
     }
-
-    // The key's field in the line of the text from a byte on.
-    fn field_at<'a>(self, text: &'a [u8], at: usize) -> Result<Field<'a>, ValueFault>
-        ensures { FieldAnswers text.now at line_window (name_of self) (due_of self) result }
-    {
-        read_field(text, at, LINE_WINDOW, self.name(), self.due())
-    }
 }
 
-// The key with its value in the line of the text from a byte on, and the byte behind that line.
-fn read_entry(text: &[u8], at: usize, key: Key) -> Result<(Entry, usize), SheetFault>
-    ensures { LineAnswers key text.now at result }
+// The key with its value in the line that is read next; what is read then is what stands behind that line.
+fn read_entry(rest: &mut Cursor, key: Key) -> Result<Entry, SheetFault>
+    ensures answers { LineAnswers key rest.old.text.now rest.old.at rest.new.at result }
+    ensures same { rest.new.text ≡ rest.old.text }
 {
-    let field = key.field_at(text, at)?;
+    let field = rest.read_field(LINE_WINDOW, key.name(), key.due())?;
     let value = field.span();
-    let entry = key.entry(value.bytes, value.byte)?;
-    Ok((entry, value.byte + value.bytes.len() + 1))
+    let entry = key.entry(value)?;
+    rest.at = value.byte + value.bytes.len() + 1;
+    Ok(entry)
 }
 
 // The twelve keys in the order of their lines.
@@ -125,39 +118,28 @@ fn with_number(values: Values, key: NumberKey, number: u16) -> Values
     }
 }
 
-// The values of the twelve lines, and the byte behind the last.
-fn read_values(text: &[u8]) -> Result<(Values, usize), SheetFault>
-    ensures { FrontAnswers text.now result }
+// The values of the twelve lines of a text that is read from its first byte; what is read then is what stands behind the last.
+fn read_values(rest: &mut Cursor) -> Result<Values, SheetFault>
+    requires { rest.old.at ≡ 0 }
+    ensures answers { FrontAnswers rest.old.text.now rest.new.at result }
+    ensures same { rest.new.text ≡ rest.old.text }
 {
     let mut values = BLANK;
-    let mut at = 0;
     for key in &KEYS {
-        let (entry, next) = read_entry(text, at, *key)?;
-        values = with_entry(values, entry);
-        at = next;
+        values = with_entry(values, read_entry(rest, *key)?);
     }
-    Ok((values, at))
+    Ok(values)
 }
 
 // The draft that a text is the sheet of, or the first fault.
 fn read_draft(text: &[u8]) -> Result<Draft, SheetFault>
     ensures { SheetAnswers text.now result }
 {
-    let (values, end) = read_values(text)?;
-    ends_at(text, end)?;
+    let mut rest = Cursor { text, at: 0 };
+    let values = read_values(&mut rest)?;
+    rest.ends().map_err(SheetFault::LeftOver)?;
     asks_brake(values)?;
     Ok(Draft { values })
-}
-
-// Nothing of the text is left over from a byte on.
-fn ends_at(text: &[u8], end: usize) -> Result<(), SheetFault>
-    ensures { Ended text.now end result }
-{
-    if end == text.len() {
-        Ok(())
-    } else {
-        Err(SheetFault::LeftOver(end))
-    }
 }
 
 // A goods brake stands only with a goods train.

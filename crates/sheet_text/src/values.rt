@@ -6,7 +6,7 @@ ghost use Rattle.sheet_text.specs.declared.key.Key.TheVariants.{Word as OfWord, 
 use crate::entry::Entry;
 use crate::faults::SheetFault;
 use crate::key::{Key, WordKey};
-use fields::ValueFault;
+use fields::{Span, ValueFault};
 use numerals::read_number;
 use sheet::NumberKey;
 
@@ -17,32 +17,23 @@ pub(crate) const MOST_DIGITS: usize = 4;
 fn read_short(digits: &[u8]) -> Option<u16>
     ensures { Read 4 digits.now result }
 {
-    let number = read_few(digits)?;
-    Some(number as u16)
+    Some(read_number(digits, MOST_DIGITS)? as u16)
 }
 
-fn read_few(digits: &[u8]) -> Option<u64>
-    ensures { Read 4 digits.now result }
+fn word_entry(key: WordKey, value: Span) -> Result<Entry, SheetFault>
+    ensures { ValueAnswers (OfWord key) value.entry.bytes.now value.entry.byte result }
 {
-    read_number(digits, MOST_DIGITS)
+    Ok(
+        key.entry(value.bytes)
+            .ok_or(ValueFault::BadValue(value.byte))?,
+    )
 }
 
-fn word_entry(key: WordKey, value: &[u8], byte: usize) -> Result<Entry, SheetFault>
-    ensures { ValueAnswers (OfWord key) value.now byte result }
+fn number_entry(key: NumberKey, value: Span) -> Result<Entry, SheetFault>
+    ensures { ValueAnswers (OfNumber key) value.entry.bytes.now value.entry.byte result }
 {
-    match key.entry(value) {
-        Some(entry) => Ok(entry),
-        None => Err(SheetFault::Value(ValueFault::BadValue(byte))),
-    }
-}
-
-fn number_entry(key: NumberKey, value: &[u8], byte: usize) -> Result<Entry, SheetFault>
-    ensures { ValueAnswers (OfNumber key) value.now byte result }
-{
-    let Some(number) = read_short(value) else {
-        return Err(SheetFault::Value(ValueFault::BadValue(byte)));
-    };
-    asks_range(key, number, byte)?;
+    let number = read_short(value.bytes).ok_or(ValueFault::BadValue(value.byte))?;
+    asks_range(key, number, value.byte)?;
     Ok(Entry::Number(key, number))
 }
 
@@ -58,13 +49,13 @@ fn asks_range(key: NumberKey, number: u16, byte: usize) -> Result<(), SheetFault
 }
 
 impl Key {
-    // The key with the value that begins at a byte, if it has the key's form and is in its range.
-    pub(crate) fn entry(self, value: &[u8], byte: usize) -> Result<Entry, SheetFault>
-        ensures { ValueAnswers self value.now byte result }
+    // The key with its value, if this has the key's form and is in its range.
+    pub(crate) fn entry(self, value: Span) -> Result<Entry, SheetFault>
+        ensures { ValueAnswers self value.entry.bytes.now value.entry.byte result }
     {
         match self {
-            Key::Word(key) => word_entry(key, value, byte),
-            Key::Number(key) => number_entry(key, value, byte),
+            Key::Word(key) => word_entry(key, value),
+            Key::Number(key) => number_entry(key, value),
         }
     }
 }

@@ -1,9 +1,11 @@
-ghost use Rattle.std.specs.Prelude.{◌≡◌, Decides};
+ghost use Rattle.std.specs.Prelude.{◌≡◌};
 ghost use Rattle.sheet_text.specs.Entries.{name_of, model_word, regime_word, service_word, length_word};
-ghost use Rattle.sheet_text.specs.Reading.{EntryRead, WordRead};
+ghost use Rattle.sheet_text.specs.Reading.{EntryRead};
+ghost use Rattle.sheet_text.specs.Words.{models, models_complete, regimes, regimes_complete, services, services_complete, length_choices, length_choices_complete};
 
 use crate::entry::Entry;
 use crate::key::{Key, WordKey};
+use crate::word::{Word, read_word};
 use sheet::{LengthChoice, Model, NumberKey, Regime, Service};
 
 impl Key {
@@ -28,57 +30,79 @@ impl Key {
     }
 }
 
-fn is(word: &[u8], text: &[u8]) -> bool
-    ensures { Decides result (word.now ≡ text.now) }
-{
-    word == text
-}
+impl Word for Model {
+    ghost text = { model_word };
 
-fn read_model(word: &[u8]) -> Option<Model>
-    ensures { WordRead model_word word.now result }
-{
-    if is(word, b"scmt") {
-        Some(Model::Scmt)
-    } else if is(word, b"etcs") {
-        Some(Model::Etcs)
-    } else {
-        None
+    ghost listed = { models };
+
+    ghost complete = { models_complete };
+
+    fn word(self) -> &'static [u8] {
+        match self {
+            Model::Scmt => b"scmt",
+            Model::Etcs => b"etcs",
+        }
+    }
+
+    fn all() -> &'static [Model] {
+        &[Model::Scmt, Model::Etcs]
     }
 }
 
-fn read_regime(word: &[u8]) -> Option<Regime>
-    ensures { WordRead regime_word word.now result }
-{
-    if is(word, b"E") {
-        Some(Regime::Operation)
-    } else if is(word, b"P") {
-        Some(Regime::Trial)
-    } else {
-        None
+impl Word for Regime {
+    ghost text = { regime_word };
+
+    ghost listed = { regimes };
+
+    ghost complete = { regimes_complete };
+
+    fn word(self) -> &'static [u8] {
+        match self {
+            Regime::Operation => b"E",
+            Regime::Trial => b"P",
+        }
+    }
+
+    fn all() -> &'static [Regime] {
+        &[Regime::Operation, Regime::Trial]
     }
 }
 
-fn read_service(word: &[u8]) -> Option<Service>
-    ensures { WordRead service_word word.now result }
-{
-    if is(word, b"V") {
-        Some(Service::Passenger)
-    } else if is(word, b"M") {
-        Some(Service::Goods)
-    } else {
-        None
+impl Word for Service {
+    ghost text = { service_word };
+
+    ghost listed = { services };
+
+    ghost complete = { services_complete };
+
+    fn word(self) -> &'static [u8] {
+        match self {
+            Service::Passenger => b"V",
+            Service::Goods => b"M",
+        }
+    }
+
+    fn all() -> &'static [Service] {
+        &[Service::Passenger, Service::Goods]
     }
 }
 
-fn read_length(word: &[u8]) -> Option<LengthChoice>
-    ensures { WordRead length_word word.now result }
-{
-    if is(word, b"LD") {
-        Some(LengthChoice::Fixed)
-    } else if is(word, b"LT") {
-        Some(LengthChoice::Train)
-    } else {
-        None
+impl Word for LengthChoice {
+    ghost text = { length_word };
+
+    ghost listed = { length_choices };
+
+    ghost complete = { length_choices_complete };
+
+    fn word(self) -> &'static [u8] {
+        match self {
+            LengthChoice::Fixed => b"LD",
+            LengthChoice::Train => b"LT",
+        }
+    }
+
+    fn all() -> &'static [LengthChoice] {
+        &[LengthChoice::Fixed, LengthChoice::Train]
     }
 }
 
@@ -88,11 +112,11 @@ impl WordKey {
         ensures { EntryRead self word.now result }
     {
         match self {
-            WordKey::Model => Some(Entry::Model(read_model(word)?)),
-            WordKey::Regime => Some(Entry::Regime(read_regime(word)?)),
-            WordKey::Train => Some(Entry::Train(read_service(word)?)),
-            WordKey::Brake => Some(Entry::Brake(read_service(word)?)),
-            WordKey::Lfren => Some(Entry::Lfren(read_length(word)?)),
+            WordKey::Model => read_word(word).map(Entry::Model),
+            WordKey::Regime => read_word(word).map(Entry::Regime),
+            WordKey::Train => read_word(word).map(Entry::Train),
+            WordKey::Brake => read_word(word).map(Entry::Brake),
+            WordKey::Lfren => read_word(word).map(Entry::Lfren),
         }
     }
 }

@@ -1,6 +1,6 @@
 -- Two texts that are written one behind the other are one text.
-use Rattle.std.proofs.Common.{◌≡◌, ℕ, List, ◌++◌, length, take, drop, sym, ap, ◌∙◌, append_assoc, arith}
-use Rattle.std.proofs.lemmas.List.{length-append, length-take-le, length-drop, take_at, drop_at, drop-drop}
+use Rattle.std.proofs.Common.{◌≡◌, ℕ, ◌≤◌, List, [], ◌++◌, length, take, drop, sym, ap, ◌∙◌, append_assoc, arith}
+use Rattle.std.proofs.lemmas.List.{take-append-drop, length-append, length-take-le, length-drop, take_at, drop_at, drop-drop}
 use Rattle.sheet_writer.specs.Steps.{Put}
 
 -- the memory up to the end of the text
@@ -34,3 +34,7 @@ join {before} {first} {middle} {second} {after} {at} {end} {last} p q =
           ∙ (ap (λ (t : List ℕ). (take at before ++ first) ++ (second ++ t)) tail
           ∙ (append_assoc (take at before) first (second ++ drop last before) ∙ ap (λ (t : List ℕ). take at before ++ t) (sym (append_assoc first second (drop last before))))));
     }
+
+-- no text
+pub none : (before : List ℕ) (at : ℕ) → at ≤ length before → Put before at [] before at
+none before at h = record { ends = omega arith; fits = h; bytes = sym (take-append-drop at before) }

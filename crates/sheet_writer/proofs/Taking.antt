@@ -21,6 +21,6 @@ lines_within es i =
     omega (arith, ap (λ (fs : List Entry). length (lines fs)) (take-append-drop i es), ap length (lines_append (take i es) (drop i es)), length-append (lines (take i es)) (lines (drop i es)))
 
 -- where the first lines stand and there is room for all, there is room for one more
-pub room_more : (es : List Entry) (i : ℕ) (d : Entry) {at : ℕ} {before after : List ℕ} → i < length es → length (lines es) ≤ length before → Put before 0 (lines (take i es)) after at → at + length (line_text (get_or es i d)) ≤ length after
-room_more es i d {at} {before} {after} h fits p =
+pub room_more : (es : List Entry) (i : ℕ) (d : Entry) {from at : ℕ} {before after : List ℕ} → i < length es → from + length (lines es) ≤ length before → Put before from (lines (take i es)) after at → at + length (line_text (get_or es i d)) ≤ length after
+room_more es i d {from} {at} {before} {after} h fits p =
     omega (arith, p.ends, kept p, lines_within es (i + 1), ap length (lines_more es i d h), length-append (lines (take i es)) (line_text (get_or es i d)))

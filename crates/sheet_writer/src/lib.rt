@@ -1,10 +1,8 @@
 #![tactic(auto)]
 
-mod bytes;
 mod entries;
-mod lines;
 mod refusal;
-mod words;
+mod writer;
 mod writing;
 
 pub use refusal::Refusal;

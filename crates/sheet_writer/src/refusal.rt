@@ -2,10 +2,10 @@ ghost use Rattle.std.specs.Prelude.{◌≡◌};
 ghost use Rattle.sheet_writer.specs.Refusals.{number};
 
 // Why a sheet is not written.
-#[derive(Clone, Copy)]
+#[derive(Clone, Copy, Debug, PartialEq, Eq)]
 pub enum Refusal {
     // the memory is too short for some sheets
-    NoRoom,
+    NoRoom = 11,
 }
 
 impl Refusal {
@@ -13,8 +13,6 @@ impl Refusal {
     pub fn number(self) -> u8
         ensures { result ≡ number self }
     {
-        match self {
-            Refusal::NoRoom => 11,
-        }
+        self as u8
     }
 }

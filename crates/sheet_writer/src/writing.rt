@@ -1,19 +1,26 @@
-ghost use Rattle.std.specs.Prelude.{◌≡◌, ◌≤◌, true, length, Decides};
+ghost use Rattle.std.specs.Prelude.{◌≡◌, ◌≤◌, true, length};
 ghost use Rattle.sheet.specs.Ranges.{admissible};
+ghost use Rattle.sheet_text.specs.Entries.{lines};
+ghost use Rattle.sheet_writer.specs.Steps.{Put};
 ghost use Rattle.sheet_writer.specs.Writing.{Answers, Stands, room};
 
 use crate::entries::entries_of;
-use crate::lines::write_lines;
 use crate::refusal::Refusal;
+use crate::writer::Writer;
 use sheet::{Admitted, Values};
+use sheet_text::Entry;
 
 // So many bytes of memory are asked for, whatever the sheet.
 const ROOM: usize = 128;
 
-fn is_room(count: usize) -> bool
-    ensures { Decides result (room ≤ count) }
+// Writes the lines of the entries from the first byte on and answers where they end.
+fn write_lines(out: &mut [u8], entries: &[Entry]) -> usize
+    requires { length (lines entries.now) ≤ length out.old }
+    ensures { Put out.old 0 (lines entries.now) out.new result }
 {
-    count >= ROOM
+    let mut writer = Writer { out, at: 0 };
+    writer.lines(entries);
+    writer.at
 }
 
 // Writes the text of values that are fine into memory that is long enough.
@@ -29,7 +36,7 @@ fn write_values(values: &Values, out: &mut [u8]) -> usize
 pub fn write_sheet(sheet: &Admitted, out: &mut [u8]) -> Result<usize, Refusal>
     ensures { Answers sheet.now.values out.old out.new result }
 {
-    if !is_room(out.len()) {
+    if out.len() < ROOM {
         return Err(Refusal::NoRoom);
     }
     Ok(write_values(&sheet.values(), out))

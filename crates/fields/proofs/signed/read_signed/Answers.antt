@@ -1,14 +1,16 @@
-use Rattle.std.proofs.Common.{Option, sym, subst}
-use Rattle.fields.specs.Signed.{ReadSigned}
+use Rattle.std.proofs.Common.{[], ◌∷◌, Some}
+use Rattle.std.proofs.lemmas.Bool.Decides.{Decides-eqb}
+use Rattle.std.proofs.lemmas.Slice.Eq.{strip_prefix_is}
 use Rattle.fields.proofs.Signs.{none_behind, number_behind}
 use Rattle.fields.proofs.signed.read_signed.Goals as goal
 
-pub returns-in_err-number-2 : goal.returns-in_err-number-2
-returns-in_err-number-2 c =
-    subst (λ (r : Option lib.IntN.ℤ). ReadSigned c.args.most c.args.bytes.now r) (sym c.from_residual-in_err-number-2.ensures)
-    (none_behind c.args.most c.args.bytes.now (c.has_minus.ensures.0 c.if-not-has_minus.false) c.in_err-number-2.ensures.read)
+pub returns-in_err-read_number-in-Some : goal.returns-in_err-read_number-in-Some
+returns-in_err-read_number-in-Some c =
+    let parted = strip_prefix_is Decides-eqb c.args.bytes.now (45 ∷ []) (Some c.in-Some.digits) c.in-Some.ensures.cases in
+    rw c.from_residual.ensures (none_behind c.args.most c.args.bytes.now c.in-Some.digits.now parted c.in_err-read_number-in-Some.ensures.read)
 
-pub returns : goal.returns
-returns c =
-    number_behind c.args.most c.in_ok-number-2.number c.args.bytes.now c.negated.result
-    (c.has_minus.ensures.0 c.if-not-has_minus.false) c.in_ok-number-2.ensures.read c.negated.ensures
+pub returns-in_ok-read_number-in-Some : goal.returns-in_ok-read_number-in-Some
+returns-in_ok-read_number-in-Some c =
+    let parted = strip_prefix_is Decides-eqb c.args.bytes.now (45 ∷ []) (Some c.in-Some.digits) c.in-Some.ensures.cases in
+    number_behind c.args.most c.in_ok-read_number-in-Some.field-0 c.args.bytes.now c.in-Some.digits.now c.negated.result
+    parted c.in_ok-read_number-in-Some.ensures.read c.negated.ensures

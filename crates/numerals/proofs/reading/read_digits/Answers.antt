@@ -17,22 +17,23 @@ digit byte h = grind (arith, nat_tests)
 more : (bytes : List ℕ) (i : ℕ) → i < length bytes → IsDigit (get_or bytes i 0) → AllDigits (take i bytes) → AllDigits (take (i + 1) bytes)
 more bytes i h is all = own.from (take (i + 1) bytes) (digits_more 10 bytes i h (own.to (take i bytes) all) (omega (arith, digit (get_or bytes i 0) is)))
 
-pub with_digit-number-requires : goal.with_digit-number-requires
-with_digit-number-requires c =
-    let bytes = c.args.bytes.now in
+pub overflow_mul-number : goal.overflow_mul-number
+overflow_mul-number c =
     let i = c.loop-byte.byte-index in
-    record {
-      short = omega (arith, c.loop-byte.invariant.1, digits_value_short own (take i bytes) 9 c.loop-byte.invariant.0 (omega (arith, length-take i bytes)));
-      one = omega (arith, c.in-Some.ensures);
-    }
+    omega (arith, c.loop-byte.invariant.1, digits_value_short own (take i c.args.bytes.now) 9 c.loop-byte.invariant.0 (omega (arith, length-take i c.args.bytes.now)))
+
+pub overflow_add-number : goal.overflow_add-number
+overflow_add-number c =
+    let i = c.loop-byte.byte-index in
+    omega (arith, c.loop-byte.invariant.1, digits_value_short own (take i c.args.bytes.now) 9 c.loop-byte.invariant.0 (omega (arith, length-take i c.args.bytes.now)))
 
 pub loop-byte-preserved : goal.loop-byte-preserved
 loop-byte-preserved c =
     let bytes = c.args.bytes.now in
     let i = c.loop-byte.byte-index in
-    let is = c.in-Some.ensures in (
+    let is = c.in_ok-digit_value.ensures in (
       more bytes i c.loop-byte-test.true is.0 c.loop-byte.invariant.0,
-      omega (arith, c.with_digit-number.ensures, is.1, c.loop-byte.invariant.1, digit (get_or bytes i 0) is.0, digits_value_more 10 bytes i c.loop-byte-test.true),
+      omega (arith, is.1, c.loop-byte.invariant.1, digit (get_or bytes i 0) is.0, digits_value_more 10 bytes i c.loop-byte-test.true),
     )
 
 pub returns : goal.returns

@@ -1,29 +1,28 @@
--- Each tenth has one digit less.
-use Rattle.std.proofs.Common.{◌≡◌, ℕ, ◌+◌, ◌/◌, ◌%◌, ◌^◌, ◌<◌, ◌≤◌, length, decimal, ap, ◌∙◌, arith}
-use Rattle.std.proofs.lemmas.List.{length_push}
-use Rattle.std.proofs.lemmas.Fmt.{decimal_digit, decimal_step, decimal_nonempty, length-decimal-le}
+-- The digits are one more than the whole part of the logarithm.
+use Rattle.std.proofs.Common.{◌≡◌, ℕ, zero, suc, ◌+◌, ◌*◌, ◌^◌, ◌<◌, ◌≤◌, max, length, decimal, refl, ap, ⊎_elim, arith}
+use native.Mathlib.Nat.{one-le-pow}
+use Rattle.std.proofs.lemmas.Bool.{cases_lt}
+use Rattle.std.proofs.lemmas.Fmt.{decimal_digit, length-decimal-le}
+use Rattle.numerals.proofs.Spelling.{more_digits}
 use Rattle.numerals.proofs.width.digits_of.Goals as goal
 
--- a number of 64 bits has at most 20 digits
-few : (n : ℕ) → n < 2 ^ 64 → length (decimal n) ≤ 20
-few n h = length-decimal-le 20 n (omega arith) (omega arith) h
+-- only the power to 0 is not above 1
+flat : (k : ℕ) → 10 ^ k ≤ 1 → k ≡ 0
+flat zero h = refl
+flat (suc k) h = absurd (omega (arith, one-le-pow k 10 (omega arith)))
 
-pub overflow_add-count : goal.overflow_add-count
-overflow_add-count c = omega (arith, c.loop-left.invariant.1, few c.args.number (omega arith))
-
-pub loop-left-preserved : goal.loop-left-preserved
-loop-left-preserved c =
-    let m = c.loop-left.left in
-    let small : m < 2 ^ 64 = c.loop-left.invariant.0 in
-    let one_more : length (decimal m) ≡ length (decimal (m / 10)) + 1 = ap length (decimal_step m (omega (arith, c.loop-left-test.true)) small) ∙ length_push (decimal (m / 10)) (48 + m % 10) in
-    (omega arith, omega (arith, c.loop-left.invariant.1))
+counted : (n k : ℕ) → 10 ^ k ≤ max n 1 → max n 1 < 10 * 10 ^ k → k < 20 → n < 2 ^ 64 → length (decimal n) ≡ k + 1
+counted n k low high few small = ⊎_elim
+    (λ l. let none = flat k (omega arith) in omega (arith, ap length (decimal_digit n (omega arith))))
+    (λ l. omega (arith, more_digits k n (omega arith) (omega arith), length-decimal-le (suc k) n (omega arith) (omega arith) small))
+    (cases_lt n 1)
 
 pub returns : goal.returns
 returns c =
-    let m = c.loop-left.left in
-    let one : length (decimal m) ≡ 1 = ap length (decimal_digit m (omega (arith, c.loop-left-test.false))) in
+    let k = c.ilog10.result in
+    let is : length (decimal c.args.number) ≡ k + 1 = counted c.args.number k (omega arith) (omega arith) (omega arith) (omega arith) in
     record {
-      count = omega (arith, c.loop-left.invariant.1);
-      some = omega (arith, c.loop-left.invariant.1, decimal_nonempty c.args.number (omega arith));
-      few = omega (arith, c.loop-left.invariant.1, few c.args.number (omega arith));
+      count = omega (arith, is);
+      some = omega (arith, is);
+      few = omega (arith, is);
     }

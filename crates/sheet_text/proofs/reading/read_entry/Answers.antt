@@ -1,23 +1,28 @@
-use Rattle.std.proofs.Common.{◌≡◌, ◌+◌, length, sym, refl, subst, arith}
-use Rattle.fields.specs.Keys.{Keyed}
-use Rattle.fields.specs.declared.span.Span.{Span}
-use Rattle.sheet_text.specs.Entries.{name_of}
-use Rattle.sheet_text.proofs.LineTexts.{entry_read}
+use Rattle.std.proofs.Common.{◌+◌, ◌≤◌, length, refl, arith}
+use Rattle.sheet_text.proofs.LineTexts.{span_read}
 use Rattle.sheet_text.proofs.reading.read_entry.Goals as goal
+use Rattle.sheet_text.proofs.reading.read_entry.Goals.{In_ok-entry}
+
+-- the sum of the value's byte and length, and 1 more, is within the text
+within : (c : In_ok-entry) → c.span-value.result.byte + length c.span-value.result.bytes.now + 1 ≤ length c.args.rest.now.text.now
+within c =
+    let field = c.in_ok-field.ensures in
+    let entry = c.in_ok-entry.ensures in
+    (span_read c.args.rest.now.text.now c.args.rest.now.at c.args.key c.in_ok-entry.entry c.in_ok-field.field c.span-value.result c.name.result.now field.0
+    c.span-value.ensures c.name.ensures entry.0 entry.1 entry.2 field.1 field.2.0 field.2.1).3
 
 pub returns : goal.returns
 returns c =
     let field = c.in_ok-field.ensures in
     let entry = c.in_ok-entry.ensures in
-    let span = sym c.span-value.ensures in
-    let name = name_of c.args.key in
-    entry_read c.args.text.now c.args.at c.args.key c.in_ok-entry.entry name c.span-value.result.bytes.now field.0 c.span-value.result.byte
-    refl entry.0 entry.1 entry.2 field.1
-    (subst (λ (s : Span). Keyed name field.0 s.bytes.now) span field.2.0)
-    (subst (λ (s : Span). s.byte ≡ c.args.at + length name + 1) span field.2.1)
+    record {
+      answers = span_read c.args.rest.now.text.now c.args.rest.now.at c.args.key c.in_ok-entry.entry c.in_ok-field.field c.span-value.result c.name.result.now field.0
+          c.span-value.ensures c.name.ensures entry.0 entry.1 entry.2 field.1 field.2.0 field.2.1;
+      same = refl;
+    }
 
-pub overflow_add-result : goal.overflow_add-result
-overflow_add-result c = omega (arith, (returns c).3)
+pub overflow_add-rest : goal.overflow_add-rest
+overflow_add-rest c = omega (arith, within c)
 
-pub overflow_add-result-2 : goal.overflow_add-result-2
-overflow_add-result-2 c = omega (arith, (returns c).3)
+pub overflow_add-rest-2 : goal.overflow_add-rest-2
+overflow_add-rest-2 c = omega (arith, within c)

@@ -1,21 +1,27 @@
-use Rattle.std.proofs.Common.{◌+◌, sym, subst}
+use Rattle.std.proofs.Common.{ℕ, List, Bor, sym, refl, subst, ◌∙◌}
 use Rattle.std.proofs.lemmas.Result.{err_from_is_err_and}
-use Rattle.sheet.specs.declared.values.Values.{Values}
 use Rattle.sheet_text.proofs.Progress.{Progress, start, step, stop, finish}
+use Rattle.sheet_text.specs.Sheets.{blank, Stops, Fronts}
 use Rattle.sheet_text.proofs.reading.read_values.Goals as goal
 
 pub loop-key-init : goal.loop-key-init
-loop-key-init c = start c.args.text.now
+loop-key-init c = (subst (λ (n : ℕ). Progress c.args.rest.now.text.now 0 n blank) (sym c.requires) (start c.args.rest.now.text.now), refl)
 
 pub loop-key-preserved : goal.loop-key-preserved
 loop-key-preserved c =
-    subst (λ (v : Values). Progress c.args.text.now (c.loop-key.key-index + 1) c.in_ok-entry.next v) (sym c.with_entry-values.ensures)
-    (step c.args.text.now c.loop-key.key-index c.loop-key.at c.in_ok-entry.next c.loop-key.values _ c.in_ok-entry.entry c.loop-key.invariant c.loop-key-test.true c.in_ok-entry.ensures)
+    let read = c.in_ok-read_entry.ensures in
+    let more = step c.loop-key.rest.text.now c.loop-key.key-index c.loop-key.rest.at c.read_entry.new.rest.at c.loop-key.values _ c.in_ok-read_entry.field-0 c.loop-key.invariant.0 c.loop-key-test.true read.answers in
+    (rw (read.same, c.with_entry-values.ensures) more, read.same ∙ c.loop-key.invariant.1)
 
-pub returns-in_err-entry : goal.returns-in_err-entry
-returns-in_err-entry c =
+pub returns-in_err-read_entry-clause-answers : goal.returns-in_err-read_entry-clause-answers
+returns-in_err-read_entry-clause-answers c =
     let p = err_from_is_err_and c.from_residual.result c.from_residual.ensures.1 in
-    rw (p.1, p.2) (stop c.args.text.now c.loop-key.key-index c.loop-key.at c.loop-key.values _ _ c.loop-key.invariant c.loop-key-test.true c.in_err-entry.ensures)
+    let stops = stop c.loop-key.rest.text.now c.loop-key.key-index c.loop-key.rest.at c.loop-key.values _ _ c.loop-key.invariant.0 c.loop-key-test.true c.in_err-read_entry.ensures.answers in
+    rw (p.1, p.2) (subst (λ (t : Bor (List ℕ)). Stops t.now c.in_err-read_entry.field-0.0) c.loop-key.invariant.1 stops)
 
 pub returns : goal.returns
-returns c = finish c.args.text.now c.loop-key.key-index c.loop-key.at c.loop-key.values c.loop-key.invariant c.loop-key-test.false
+returns c = record {
+  answers = subst (λ (t : Bor (List ℕ)). Fronts t.now c.loop-key.values c.loop-key.rest.at) c.loop-key.invariant.1
+      (finish c.loop-key.rest.text.now c.loop-key.key-index c.loop-key.rest.at c.loop-key.values c.loop-key.invariant.0 c.loop-key-test.false);
+  same = c.loop-key.invariant.1;
+}

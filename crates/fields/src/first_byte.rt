@@ -1,0 +1,8 @@
+ghost use Rattle.std.specs.Prelude.{◌≡◌, ◌==◌, position};
+
+// Where a byte stands first among others.
+pub fn first_of(bytes: &[u8], sign: u8) -> Option<usize>
+    ensures { result ≡ position (λ b. b == sign) bytes.now }
+{
+    bytes.iter().position(|byte| *byte == sign)
+}
