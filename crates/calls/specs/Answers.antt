@@ -10,5 +10,5 @@ Answer = Result (Option Zone) Refusal
 
 -- 0 where it is accepted, else the refusal's.
 abbrev pub answer_number : Answer → ℕ
-answer_number (Ok z) = 0
+answer_number (Ok _) = 0
 answer_number (Err r) = number r
