@@ -52,7 +52,8 @@ impl<'a, M: BrakingModel> Train<'a, M> {
     {
         let mut largest = Zone::Clear;
         for target in targets {
-            largest = largest.larger(self.target_zone(target));
+            let zone = self.target_zone(target);
+            largest = largest.larger(zone);
         }
         largest
     }

@@ -12,7 +12,7 @@ loop-target-init g c =
 pub loop-target-preserved : goal.loop-target-preserved
 loop-target-preserved g c =
     one_more (g.M.BrakingModel.meaning c.args.self.now.model.now) (sections_in c.args.self.now.sections.now) c.args.self.now.front.millimetres c.args.self.now.speed.tenths c.args.targets.now
-    c.loop-target.target-index _ c.loop-target.largest c.larger-largest.result _ c.loop-target-test.true c.loop-target.invariant (c.larger-largest.ensures.value ∙ ap (larger_zone c.loop-target.largest) c.target_zone.ensures)
+    c.loop-target.target-index _ c.loop-target.largest c.larger-largest.result _ c.loop-target-test.true c.loop-target.invariant (c.larger-largest.ensures.value ∙ ap (larger_zone c.loop-target.largest) c.target_zone-zone.ensures)
 
 pub returns : goal.returns
 returns g c =
