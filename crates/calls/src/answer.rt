@@ -1,13 +1,5 @@
-mod number;
-
 use crate::refusal::Refusal;
 use crate::zone::Zone;
 
-// What a call is answered.
-#[derive(Clone, Copy)]
-pub enum Answer {
-    Accepted,
-    // an accepted sample, with its zone
-    Sampled(Zone),
-    Refused(Refusal),
-}
+// What a call is answered: accepted, with its zone where it is a sample, or why it is refused.
+pub type Answer = Result<Option<Zone>, Refusal>;

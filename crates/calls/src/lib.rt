@@ -2,6 +2,7 @@
 
 mod answer;
 mod call;
+mod limits;
 mod phase;
 mod record;
 mod refusal;
@@ -9,6 +10,7 @@ mod zone;
 
 pub use answer::Answer;
 pub use call::Call;
+pub use limits::{FASTEST, FURTHEST, STEEPEST_FALL, STEEPEST_RISE};
 pub use phase::Phase;
 pub use record::Record;
 pub use refusal::Refusal;

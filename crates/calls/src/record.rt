@@ -1,3 +1,6 @@
+ghost use Rattle.std.specs.Prelude.{◌≡◌};
+ghost use Rattle.calls.specs.Answers.{answer_number};
+
 use crate::answer::Answer;
 use crate::call::Call;
 use crate::phase::Phase;
@@ -8,4 +11,13 @@ pub struct Record {
     pub call: Call,
     pub answer: Answer,
     pub phase: Phase,
+}
+
+impl Record {
+    // 0 where the call is accepted, else the refusal's number.
+    pub fn answer_number(self) -> u8
+        ensures { result ≡ answer_number self.answer }
+    {
+        self.answer.map_or_else(|refusal| refusal.number(), |_| 0)
+    }
 }

@@ -1,18 +1,28 @@
-mod number;
+ghost use Rattle.std.specs.Prelude.{◌≡◌};
+ghost use Rattle.calls.specs.Refusals.{number};
 
-// Why a call is refused.
-#[derive(Clone, Copy)]
+// Why a call is refused, with the number that stands for it.
+#[derive(Clone, Copy, Debug, PartialEq, Eq, Hash)]
 pub enum Refusal {
     // a place, or a distance from one, is beyond 1,000,000,000 mm
-    PlaceOutOfLimits,
+    PlaceOutOfLimits = 7,
     // a target's speed is above the model's top speed, or a sample's above 4,000 tenths of km/h
-    TooFast,
+    TooFast = 8,
     // the grade is not from -35 to 35
-    GradeOutOfLimits,
+    GradeOutOfLimits = 9,
     // the section's place or the target's number is taken, or no target has the number that is withdrawn
-    Taken,
+    Taken = 10,
     // no more items fit
-    Full,
+    Full = 11,
     // the phase is not emergency, or the last accepted call was no sample in zone 0
-    NotReleasable,
+    NotReleasable = 12,
+}
+
+impl Refusal {
+    // The number that stands for the refusal.
+    pub fn number(self) -> u8
+        ensures { result ≡ number self }
+    {
+        self as u8
+    }
 }

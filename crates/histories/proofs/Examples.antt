@@ -1,12 +1,11 @@
 -- The worked run, that its meaning is lawful, and histories that the lines rule out.
-use Rattle.std.proofs.Common.{◌≡◌, ℕ, ◌*◌, ◌≤◌, Bool, true, false, cond, leb, [], ◌∷◌, ◌++◌, pos, ◌≤ℤ◌, ◌<ℤ◌, sym, refl, ap, ◌∙◌, subst, inl, inr, arith, lit<, lit≤}
+use Rattle.std.proofs.Common.{◌≡◌, ℕ, ◌*◌, ◌≤◌, Bool, true, false, cond, leb, [], ◌∷◌, ◌++◌, pos, None, Ok, ◌≤ℤ◌, ◌<ℤ◌, sym, refl, ap, ◌∙◌, subst, inl, inr, arith, lit<, lit≤}
 use lib.Signed.{lt_z}
 use Rattle.std.proofs.lemmas.Bool.{le-leb}
 use Rattle.std.proofs.lemmas.Int.{ints}
 use Rattle.units.specs.Fractions.{whole}
 use Rattle.braking.specs.Laws.{Close, Lawful, Sound, Strong}
 use Rattle.braking.specs.Meaning.{Question, Verdict, weak, strong}
-use Rattle.calls.specs.declared.answer.Answer.TheVariants.{Accepted}
 use Rattle.calls.specs.declared.phase.Phase.TheVariants.{Free, Warning, Emergency}
 use Rattle.calls.specs.declared.record.Record.{Record}
 use Rattle.history.specs.History.{History, Target, Bound, slope, announce, withdraw, sample, release}
@@ -116,7 +115,7 @@ braking = record { sections = made.sections; section_room = 63; targets = made.t
 
 -- An entry differs from the run's only in what the lines do not ask of it.
 braked_tracked : Tracks 10 braked braking
-braked_tracked = tracks_sampled 10 one_target made tracked 790 20 Emergency Accepted
+braked_tracked = tracks_sampled 10 one_target made tracked 790 20 Emergency (Ok None)
 
 yet : LastSampleClear 10 tenfold (braked ++ done (sample 740 20) Emergency ∷ []) → ⊥
 yet w =

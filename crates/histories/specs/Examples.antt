@@ -1,10 +1,9 @@
 -- A run worked out in numbers, and histories that the three lines rule out.
-use Rattle.std.specs.Prelude.{◌≡◌, ◌*◌, cond, List, [], ◌∷◌, ◌++◌, map, pos, int_lt}
+use Rattle.std.specs.Prelude.{◌≡◌, ◌*◌, cond, List, [], ◌∷◌, ◌++◌, map, pos, int_lt, None, Ok}
 use Rattle.std.proofs.Common.{lit<}
 use Rattle.units.specs.Fractions.{whole}
 use Rattle.braking.specs.Meaning.{Meaning, weak, strong}
 use Rattle.calls.specs.Answers.{answer_number}
-use Rattle.calls.specs.declared.answer.Answer.TheVariants.{Accepted}
 use Rattle.calls.specs.declared.call.Call.{Call}
 use Rattle.calls.specs.declared.phase.Phase.{Phase}
 use Rattle.calls.specs.declared.phase.Phase.TheVariants.{Free, Warning, Emergency}
@@ -41,7 +40,7 @@ pub record Worked : Type 0 where
 
 -- An accepted call with the phase after it.
 abbrev pub done : Call → Phase → Record
-done c p = record { call = c; answer = Accepted; phase = p }
+done c p = record { call = c; answer = Ok None; phase = p }
 
 -- A target of speed 5 that stands at 990, on a grade of 4.
 abbrev pub one_target : History

@@ -1,5 +1,5 @@
 -- Each step keeps the three lines, and what clear says.
-use Rattle.std.proofs.Common.{◌≡◌, ℕ, ◌<◌, ◌≤◌, Bool, true, false, not, ltb, [], ◌∷◌, ◌++◌, ℤ, pos, ◌≤ℤ◌, Some, None, sym, refl, ap, ◌∙◌, subst, inl, inr, arith}
+use Rattle.std.proofs.Common.{◌≡◌, ℕ, ◌<◌, ◌≤◌, Bool, true, false, not, ltb, [], ◌∷◌, ◌++◌, ℤ, pos, ◌≤ℤ◌, Some, None, Err, sym, refl, ap, ◌∙◌, subst, inl, inr, arith}
 use lib.Signed.{lt_z}
 use Rattle.std.proofs.lemmas.Int.{ints}
 use Rattle.std.proofs.lemmas.Bool.{cases_lt, lt-ltb, le-ltb, or_parts}
@@ -7,7 +7,6 @@ use Rattle.units.specs.declared.quantities.Distance.{Distance}
 use Rattle.units.specs.declared.quantities.Speed.{Speed}
 use Rattle.braking.specs.Laws.{Lawful, Sound}
 use Rattle.braking.specs.Meaning.{Meaning, Question, Asked}
-use Rattle.calls.specs.declared.answer.Answer.TheVariants.{Refused}
 use Rattle.calls.specs.declared.call.Call.{Call}
 use Rattle.calls.specs.declared.call.Call.TheVariants.{Slope, Announce, Withdraw, Sample, Release}
 use Rattle.calls.specs.declared.phase.Phase.{Phase}
@@ -61,9 +60,9 @@ module _ (eps : ℕ) (m : Meaning) (law : Lawful m) (h : History) (s : State) (k
   }
 
   -- a refused call alters nothing
-  good_refused : (c : Call) (r : Refusal) → Good eps m h c (record { answer = Refused r; state = s })
+  good_refused : (c : Call) (r : Refusal) → Good eps m h c (record { answer = Err r; state = s })
   good_refused c r =
-      let e : Record = record { call = c; answer = Refused r; phase = s.phase } in (
+      let e : Record = record { call = c; answer = Err r; phase = s.phase } in (
         quiet e refl (λ front v a. a.1),
         λ clear. let w = known clear in
             record {

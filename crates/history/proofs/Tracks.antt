@@ -1,5 +1,5 @@
 -- The state holds what stands by the history: a relation that each step keeps.
-use Rattle.std.proofs.Common.{◌≡◌, ℕ, true, false, cond, List, [], ◌∷◌, ◌++◌, ℤ, ◌≤ℤ◌, Some, None, sym, refl, ap, ◌∙◌, subst, inl, inr, arith}
+use Rattle.std.proofs.Common.{◌≡◌, ℕ, true, false, cond, List, [], ◌∷◌, ◌++◌, ℤ, ◌≤ℤ◌, Some, None, Err, sym, refl, ap, ◌∙◌, subst, inl, inr, arith}
 use Rattle.std.proofs.lemmas.Int.{ints}
 use Rattle.std.proofs.lemmas.Bool.{cases_lt}
 use Rattle.units.specs.declared.quantities.Distance.{Distance}
@@ -8,8 +8,7 @@ use Rattle.units.specs.declared.quantities.Speed.{Speed}
 use Rattle.place_list.specs.Membership.{In}
 use Rattle.place_list.specs.Insertion.{placed_in}
 use Rattle.braking.specs.Meaning.{Meaning}
-use Rattle.calls.specs.declared.answer.Answer.{Answer}
-use Rattle.calls.specs.declared.answer.Answer.TheVariants.{Refused}
+use Rattle.calls.specs.Answers.{Answer}
 use Rattle.calls.specs.declared.call.Call.{Call}
 use Rattle.calls.specs.declared.call.Call.TheVariants.{Slope, Announce, Withdraw, Sample, Release}
 use Rattle.calls.specs.declared.phase.Phase.{Phase}
@@ -180,8 +179,8 @@ module _ (eps : ℕ) (h : History) (s : State) (k : Tracks eps h s) where
   }
 
 module _ (eps : ℕ) (m : Meaning) (h : History) (s : State) (k : Tracks eps h s) where
-  tracks_refused : (c : Call) (r : Refusal) → Tracks eps (h ++ record { call = c; answer = Refused r; phase = s.phase } ∷ []) s
-  tracks_refused c r = tracks_same eps h s k (record { call = c; answer = Refused r; phase = s.phase }) s refl refl refl (λ q g a. a.1) (λ n q d v a. a.1) (λ n a. a.1)
+  tracks_refused : (c : Call) (r : Refusal) → Tracks eps (h ++ record { call = c; answer = Err r; phase = s.phase } ∷ []) s
+  tracks_refused c r = tracks_same eps h s k (record { call = c; answer = Err r; phase = s.phase }) s refl refl refl (λ q g a. a.1) (λ n q d v a. a.1) (λ n a. a.1)
 
   tracks_slope : (p : Distance) (g : Grade) → unfit_grade g.thousandths ≡ false → begins_at p.millimetres s.sections ≡ false →
       Tracks eps (h ++ entry_of (Slope p g) (does eps m s (Slope p g)) ∷ []) (does eps m s (Slope p g)).state

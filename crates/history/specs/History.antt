@@ -1,9 +1,8 @@
 -- What was called and answered, and what stands by it: by the entries alone, with no list of the program's.
-use Rattle.std.specs.Prelude.{◌≡◌, ℕ, ◌+◌, ◌-◌, ◌*◌, ◌<◌, ◌≤◌, ◌⊎◌, List, ◌∷◌, ◌++◌, ℤ, negsuc, ◌≤ℤ◌}
+use Rattle.std.specs.Prelude.{◌≡◌, ℕ, ◌+◌, ◌-◌, ◌*◌, ◌<◌, ◌≤◌, ◌⊎◌, List, ◌∷◌, ◌++◌, ℤ, negsuc, ◌≤ℤ◌, Ok, Err}
 use Rattle.units.specs.Rounding.{ceiling}
 use Rattle.braking.specs.Meaning.{Question, Binds}
-use Rattle.calls.specs.declared.answer.Answer.{Answer}
-use Rattle.calls.specs.declared.answer.Answer.TheVariants.{Accepted, Sampled, Refused}
+use Rattle.calls.specs.Answers.{Answer}
 use Rattle.calls.specs.declared.call.Call.{Call}
 use Rattle.calls.specs.declared.call.Call.TheVariants.{Slope, Announce, Withdraw, Sample, Release}
 use Rattle.calls.specs.declared.record.Record.{Record}
@@ -30,9 +29,8 @@ History = List Record
 
 -- Accepted: no refusal number.
 abbrev pub WasAccepted : Answer → Type 0
-WasAccepted Accepted = Unit {0}
-WasAccepted (Sampled zone) = Unit {0}
-WasAccepted (Refused refusal) = ⊥
+WasAccepted (Ok _) = Unit {0}
+WasAccepted (Err _) = ⊥
 
 -- The entry is that call, and it was accepted.
 abbrev pub Accepts : Record → Call → Type 0

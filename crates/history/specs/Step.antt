@@ -1,11 +1,10 @@
 -- The mission's step: what each call asks, answers and does.
-use Rattle.std.specs.Prelude.{ℕ, ◌+◌, ◌-◌, Bool, true, false, cond, not, ◌||◌, List, [], ◌∷◌, ℤ, pos, Some, None, Option, ◌==◌, int_lt, nat_le, nat_lt}
+use Rattle.std.specs.Prelude.{ℕ, ◌+◌, ◌-◌, Bool, true, false, cond, not, ◌||◌, List, [], ◌∷◌, ℤ, pos, Some, None, Ok, Err, Option, ◌==◌, int_lt, nat_le, nat_lt}
 use Rattle.std.specs.Int.{int_min}
 use Rattle.place_list.specs.Insertion.{placed_in}
 use Rattle.braking.specs.Meaning.{Meaning, Question, Verdict, weak, strong}
 use Rattle.calls.specs.Zones.{larger_zone}
-use Rattle.calls.specs.declared.answer.Answer.{Answer}
-use Rattle.calls.specs.declared.answer.Answer.TheVariants.{Accepted, Sampled, Refused}
+use Rattle.calls.specs.Answers.{Answer}
 use Rattle.calls.specs.declared.call.Call.{Call}
 use Rattle.calls.specs.declared.call.Call.TheVariants.{Slope, Announce, Withdraw, Sample, Release}
 use Rattle.calls.specs.declared.phase.Phase.{Phase}
@@ -162,7 +161,7 @@ pub record Stepped : Type 0 where
 -- What an accepted call does.
 abbrev pub does : (eps : ℕ) → Meaning → State → Call → Stepped
 does eps m s (Slope p g) = record {
-  answer = Accepted;
+  answer = Ok None;
   state = record {
     sections = placed_in (λ (x : Section). x.place) (record { place = p.millimetres; grade = g.thousandths }) s.sections;
     section_room = s.section_room - 1;
@@ -173,7 +172,7 @@ does eps m s (Slope p g) = record {
   };
 }
 does eps m s (Announce n p d v) = record {
-  answer = Accepted;
+  answer = Ok None;
   state = record {
     sections = s.sections;
     section_room = s.section_room;
@@ -184,7 +183,7 @@ does eps m s (Announce n p d v) = record {
   };
 }
 does eps m s (Withdraw n) = record {
-  answer = Accepted;
+  answer = Ok None;
   state = record {
     sections = s.sections;
     section_room = s.section_room;
@@ -195,7 +194,7 @@ does eps m s (Withdraw n) = record {
   };
 }
 does eps m s (Sample p v) = record {
-  answer = Sampled (zone_in m s p.millimetres v.tenths);
+  answer = Ok (Some (zone_in m s p.millimetres v.tenths));
   state = record {
     sections = s.sections;
     section_room = s.section_room;
@@ -206,7 +205,7 @@ does eps m s (Sample p v) = record {
   };
 }
 does eps m s Release = record {
-  answer = Accepted;
+  answer = Ok None;
   state = record {
     sections = s.sections;
     section_room = s.section_room;
@@ -220,7 +219,7 @@ does eps m s Release = record {
 -- A refusal leaves the state alone.
 abbrev pub decide : Option Refusal → State → Stepped → Stepped
 decide None s done = done
-decide (Some r) s done = record { answer = Refused r; state = s }
+decide (Some r) s done = record { answer = Err r; state = s }
 
 -- One call of the mission.
 abbrev pub step : (eps : ℕ) → Meaning → State → Call → Stepped

@@ -1,8 +1,7 @@
 -- The records so far are the run's, and the mission with its lists is in the state after it.
 use Rattle.std.proofs.Common.{◌≡◌, ℕ, false, List, [], ◌∷◌, ◌++◌, map, IfOk, Ok, Err, Result, sym, refl, ap, ◌∙◌}
-use Rattle.units.specs.declared.quantities.Grade.{Grade}
 use Rattle.braking.specs.Meaning.{Meaning}
-use Rattle.calls.specs.declared.answer.Answer.{Answer}
+use Rattle.calls.specs.Answers.{Answer}
 use Rattle.calls.specs.declared.call.Call.{Call}
 use Rattle.calls.specs.declared.phase.Phase.{Phase}
 use Rattle.calls.specs.declared.phase.Phase.TheVariants.{Free}
@@ -11,52 +10,49 @@ use Rattle.history.specs.Runs.{entry_of, run, state_after}
 use Rattle.history.specs.Step.{State, Stepped, start, step}
 use Rattle.history.proofs.Runs.{run_push, state_push}
 use Rattle.place_list.specs.Sequence.{room as room_of}
-use Rattle.place_list.specs.declared.list.PlaceList.{PlaceList}
-use Rattle.zones.specs.declared.target.Target.{Target as TargetItem}
 use Rattle.sheet.specs.declared.admitted.Admitted.{Admitted}
 use Rattle.supervision.proofs.Promises.{same_state}
 use Rattle.supervision.specs.Lists.{sections_of, targets_of}
-use Rattle.supervision.specs.Missions.{Made, eps_of, state_of}
+use Rattle.supervision.specs.Missions.{Made, SameTrain, eps_of, state_of}
+use Rattle.supervision.specs.declared.lists.Lists.{Lists}
 use Rattle.supervision.specs.declared.mission.Mission.{Mission}
 
-pub record Followed {M : Type 0} (meaning : M → Meaning) (first last : Mission M) (xs xs' : PlaceList Grade) (ts ts' : PlaceList TargetItem) (cs : List Call) (rs : List Record) : Type 0 where
-  pub records : rs ≡ run (eps_of first) (meaning first.model) (state_of first xs ts) cs
-  pub state : state_of last xs' ts' ≡ state_after (eps_of first) (meaning first.model) (state_of first xs ts) cs
-  pub sheet : last.sheet ≡ first.sheet
-  pub model : last.model ≡ first.model
+pub record Followed {M : Type 0} (meaning : M → Meaning) (first last : Mission M) (ls ls' : Lists) (cs : List Call) (rs : List Record) : Type 0 where
+  pub records : rs ≡ run (eps_of first) (meaning first.model) (state_of first ls) cs
+  pub state : state_of last ls' ≡ state_after (eps_of first) (meaning first.model) (state_of first ls) cs
+  pub train : SameTrain first last
 
-pub follow_start : {M : Type 0} (meaning : M → Meaning) (m : Mission M) (xs : PlaceList Grade) (ts : PlaceList TargetItem) (rs : List Record) → rs ≡ [] → Followed meaning m m xs xs ts ts [] rs
-follow_start meaning m xs ts rs e = record { records = e; state = refl; sheet = refl; model = refl }
+pub follow_start : {M : Type 0} (meaning : M → Meaning) (m : Mission M) (ls : Lists) (rs : List Record) → rs ≡ [] → Followed meaning m m ls ls [] rs
+follow_start meaning m ls rs e = record { records = e; state = refl; train = record { sheet = refl; model = refl } }
 
-module _ {M : Type 0} (meaning : M → Meaning) (first last next : Mission M) (xs xs' xs'' : PlaceList Grade) (ts ts' ts'' : PlaceList TargetItem) (cs : List Call) (rs : List Record) (c : Call) (r : Record) where
+module _ {M : Type 0} (meaning : M → Meaning) (first last next : Mission M) (ls ls' ls'' : Lists) (cs : List Call) (rs : List Record) (c : Call) (r : Record) where
   -- the step from the last mission is the step from the state after the calls so far
-  same_step : Followed meaning first last xs xs' ts ts' cs rs →
-      step (eps_of last) (meaning last.model) (state_of last xs' ts') c
-      ≡ step (eps_of first) (meaning first.model) (state_after (eps_of first) (meaning first.model) (state_of first xs ts) cs) c
+  same_step : Followed meaning first last ls ls' cs rs →
+      step (eps_of last) (meaning last.model) (state_of last ls') c
+      ≡ step (eps_of first) (meaning first.model) (state_after (eps_of first) (meaning first.model) (state_of first ls) cs) c
   same_step f =
-      ap (λ (n : ℕ). step n (meaning last.model) (state_of last xs' ts') c) (ap (λ x. x.values.eps) f.sheet)
-      ∙ (ap (λ (m : M). step (eps_of first) (meaning m) (state_of last xs' ts') c) f.model
+      ap (λ (n : ℕ). step n (meaning last.model) (state_of last ls') c) (ap (λ x. x.values.eps) f.train.sheet)
+      ∙ (ap (λ (m : M). step (eps_of first) (meaning m) (state_of last ls') c) f.train.model
       ∙ ap (λ (s : State). step (eps_of first) (meaning first.model) s c) f.state)
 
-  pub follow_more : Followed meaning first last xs xs' ts ts' cs rs → r.call ≡ c → r.phase ≡ next.phase → Made meaning c r.answer last next xs' xs'' ts' ts'' →
-      Followed meaning first next xs xs'' ts ts'' (cs ++ c ∷ []) (rs ++ r ∷ [])
+  pub follow_more : Followed meaning first last ls ls' cs rs → r.call ≡ c → r.phase ≡ next.phase → Made meaning c r.answer last next ls' ls'' →
+      Followed meaning first next ls ls'' (cs ++ c ∷ []) (rs ++ r ∷ [])
   follow_more f call phase w =
       let same = same_step f in
-      let answer : r.answer ≡ (step (eps_of first) (meaning first.model) (state_after (eps_of first) (meaning first.model) (state_of first xs ts) cs) c).answer =
+      let answer : r.answer ≡ (step (eps_of first) (meaning first.model) (state_after (eps_of first) (meaning first.model) (state_of first ls) cs) c).answer =
       w.answer ∙ ap (λ (x : Stepped). x.answer) same in
-      let state : state_of next xs'' ts'' ≡ (step (eps_of first) (meaning first.model) (state_after (eps_of first) (meaning first.model) (state_of first xs ts) cs) c).state =
+      let state : state_of next ls'' ≡ (step (eps_of first) (meaning first.model) (state_after (eps_of first) (meaning first.model) (state_of first ls) cs) c).state =
       w.state ∙ ap (λ (x : Stepped). x.state) same in
-      let entry : r ≡ entry_of c (step (eps_of first) (meaning first.model) (state_after (eps_of first) (meaning first.model) (state_of first xs ts) cs) c) =
+      let entry : r ≡ entry_of c (step (eps_of first) (meaning first.model) (state_after (eps_of first) (meaning first.model) (state_of first ls) cs) c) =
       ap (λ (x : Call). record { call = x; answer = r.answer; phase = r.phase }) call
       ∙ (ap (λ (x : Answer). record { call = c; answer = x; phase = r.phase }) answer
-      ∙ ap (λ (x : Phase). record { call = c; answer = (step (eps_of first) (meaning first.model) (state_after (eps_of first) (meaning first.model) (state_of first xs ts) cs) c).answer; phase = x }) (phase ∙ ap (λ (x : State). x.phase) state)) in
+      ∙ ap (λ (x : Phase). record { call = c; answer = (step (eps_of first) (meaning first.model) (state_after (eps_of first) (meaning first.model) (state_of first ls) cs) c).answer; phase = x }) (phase ∙ ap (λ (x : State). x.phase) state)) in
       record {
         records = ap (λ (l : List Record). l ++ r ∷ []) f.records
-            ∙ (ap (λ (x : Record). run (eps_of first) (meaning first.model) (state_of first xs ts) cs ++ x ∷ []) entry
-            ∙ sym (run_push (eps_of first) (meaning first.model) (state_of first xs ts) cs c));
-        state = state ∙ sym (state_push (eps_of first) (meaning first.model) (state_of first xs ts) cs c);
-        sheet = w.sheet ∙ f.sheet;
-        model = w.model ∙ f.model;
+            ∙ (ap (λ (x : Record). run (eps_of first) (meaning first.model) (state_of first ls) cs ++ x ∷ []) entry
+            ∙ sym (run_push (eps_of first) (meaning first.model) (state_of first ls) cs c));
+        state = state ∙ sym (state_push (eps_of first) (meaning first.model) (state_of first ls) cs c);
+        train = record { sheet = w.train.sheet ∙ f.train.sheet; model = w.train.model ∙ f.train.model };
       }
 
 -- The calls of a run are the calls that were made.
@@ -70,10 +66,10 @@ made_as (Ok x) h f = f x h
 made_as (Err e) h f = tt
 
 -- The run of a mission as opened, with empty lists.
-pub opened_run : {M : Type 0} (meaning : M → Meaning) (m : Mission M) (sheet : Admitted) (model : M) (xs : PlaceList Grade) (ts : PlaceList TargetItem) (room space : ℕ) (cs : List Call) →
-    m.sheet ≡ sheet → m.model ≡ model → m.phase ≡ Free → m.clear ≡ false → sections_of xs ≡ [] → room_of xs ≡ room → targets_of ts ≡ [] → room_of ts ≡ space →
-    run (eps_of m) (meaning m.model) (state_of m xs ts) cs ≡ run sheet.values.eps (meaning model) (start room space) cs
-opened_run {M} meaning m sheet model xs ts room space cs sh mo ph cl e f g h =
-    ap (λ (x : Admitted). run x.values.eps (meaning m.model) (state_of m xs ts) cs) sh
-    ∙ (ap (λ (x : M). run sheet.values.eps (meaning x) (state_of m xs ts) cs) mo
+pub opened_run : {M : Type 0} (meaning : M → Meaning) (m : Mission M) (sheet : Admitted) (model : M) (ls : Lists) (room space : ℕ) (cs : List Call) →
+    m.sheet ≡ sheet → m.model ≡ model → m.phase ≡ Free → m.clear ≡ false → sections_of ls.sections ≡ [] → room_of ls.sections ≡ room → targets_of ls.targets ≡ [] → room_of ls.targets ≡ space →
+    run (eps_of m) (meaning m.model) (state_of m ls) cs ≡ run sheet.values.eps (meaning model) (start room space) cs
+opened_run {M} meaning m sheet model ls room space cs sh mo ph cl e f g h =
+    ap (λ (x : Admitted). run x.values.eps (meaning m.model) (state_of m ls) cs) sh
+    ∙ (ap (λ (x : M). run sheet.values.eps (meaning x) (state_of m ls) cs) mo
     ∙ ap (λ (s : State). run sheet.values.eps (meaning model) s cs) (same_state e f g h ph cl))

@@ -2,19 +2,19 @@ ghost use Rattle.std.specs.Prelude.{◌≡◌, min, map, length, IfOk};
 ghost use Rattle.history.specs.Lines.{GivesOneGrade, KeepsTheLines};
 ghost use Rattle.history.specs.Runs.{run};
 ghost use Rattle.history.specs.Step.{start};
-ghost use Rattle.supervision.specs.Missions.{eps_of, state_of};
+ghost use Rattle.supervision.specs.Missions.{SameTrain, eps_of, state_of};
 
 use crate::journey::Journey;
 use braking::BrakingModel;
 use calls::{Call, Record};
-use place_list::{PlaceList, Placed};
+use place_list::Placed;
 use sheet::Admitted;
 use std::alloc::{AllocError, Global};
-use supervision::{Mission, new_sections, new_targets};
+use supervision::{Lists, Mission};
 use units::Grade;
 use zones::Target;
 
-// Opens the sheet as a mission over the model, makes the calls in their order, with two lists over the memory that is lent, and closes it.
+// Opens the sheet as a mission over the model, makes the calls in their order, with its lists over the memory that is lent, and closes it.
 pub fn run<M: BrakingModel + Drop>(
     heap: Global,
     sheet: Admitted,
@@ -30,15 +30,8 @@ pub fn run<M: BrakingModel + Drop>(
     ensures draft { result.draft.values ≡ sheet.values }
 {
     let mut mission = Mission::over(sheet, model);
-    let mut section_list = new_sections(sections);
-    let mut target_list = new_targets(targets);
-    let records = follow(
-        heap,
-        &mut mission,
-        &mut section_list,
-        &mut target_list,
-        calls,
-    );
+    let mut lists = Lists::new(sections, targets);
+    let records = follow(heap, &mut mission, &mut lists, calls);
     Journey {
         records,
         draft: mission.close(),
@@ -49,17 +42,15 @@ pub fn run<M: BrakingModel + Drop>(
 fn follow<M: BrakingModel>(
     heap: Global,
     mission: &mut Mission<M>,
-    sections: &mut PlaceList<'_, Grade>,
-    targets: &mut PlaceList<'_, Target>,
+    lists: &mut Lists<'_>,
     calls: &[Call],
 ) -> Result<Vec<Record>, AllocError>
-    ensures history { IfOk result (λ v. v.items ≡ run (eps_of mission.old) (M.BrakingModel.meaning mission.old.model) (state_of mission.old sections.old targets.old) calls.now) }
-    ensures sheet { mission.new.sheet ≡ mission.old.sheet }
-    ensures model { mission.new.model ≡ mission.old.model }
+    ensures history { IfOk result (λ v. v.items ≡ run (eps_of mission.old) (M.BrakingModel.meaning mission.old.model) (state_of mission.old lists.old) calls.now) }
+    ensures train { SameTrain mission.old mission.new }
 {
     let mut records = Vec::new(heap);
     for call in calls {
-        records.push(mission.apply(sections, targets, *call))?;
+        records.push(mission.apply(lists, *call))?;
     }
     Ok(records)
 }

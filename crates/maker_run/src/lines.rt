@@ -1,6 +1,6 @@
 use crate::script::{ALLOWED, DISTANCE, POINT, SECTIONS, SHEET};
 use braking::{Answer, BrakingModel, Question};
-use calls::{Answer as CallAnswer, Call, Phase, Record};
+use calls::{Call, Record};
 use constant_brake::ConstantBrake;
 use std::io;
 use units::{Distance, Speed};
@@ -16,7 +16,7 @@ pub(crate) fn show_record(
     if let Call::Sample { place, speed } = record.call {
         show_question(rt, brake, place, speed)?;
     }
-    show_answer(rt, record.answer, record.phase)
+    show_answer(rt, record)
 }
 
 fn show_call(rt: &HostRuntime, call: Call) -> io::Result<()> {
@@ -99,21 +99,14 @@ fn show_verdict(rt: &HostRuntime, answer: Answer) -> io::Result<()> {
     }
 }
 
-fn show_answer(rt: &HostRuntime, answer: CallAnswer, phase: Phase) -> io::Result<()> {
-    let number = answer.number();
-    let word = match phase {
-        Phase::Free => "free",
-        Phase::Warning => "warning",
-        Phase::Emergency => "emergency",
-    };
-    print!(rt; "answer={number} phase={word} zone=")?;
-    match answer {
-        CallAnswer::Sampled(zone) => {
-            let zone = zone.number();
-            print!(rt; "{zone}")?;
-        }
-        CallAnswer::Accepted => print!(rt; "-")?,
-        CallAnswer::Refused(_) => print!(rt; "-")?,
+fn show_answer(rt: &HostRuntime, record: Record) -> io::Result<()> {
+    let number = record.answer_number();
+    let phase = record.phase;
+    print!(rt; "answer={number} phase={phase} zone=")?;
+    match record.answer {
+        Ok(Some(zone)) => print!(rt; "{}", zone.number())?,
+        Ok(None) => print!(rt; "-")?,
+        Err(_) => print!(rt; "-")?,
     }
     let traction = if phase.cuts_traction() { "cut" } else { "on" };
     let brake = if phase.applies_brake() { "on" } else { "off" };

@@ -31,7 +31,6 @@ fn show_answer(rt: &HostRuntime, shown: Shown) -> io::Result<()> {
         phase,
         zone,
     } = shown;
-    let phase = phase.word();
     match zone {
         Some(zone) => {
             let zone = zone.number();

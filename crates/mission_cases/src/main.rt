@@ -5,16 +5,13 @@ mod showing;
 
 use braking::BrakingModel;
 use models::SheetModel;
-use place_list::PlaceList;
 use session::{read_lines, sheet_end};
 use sheet::{Admitted, Draft};
 use sheet_text::read_admitted;
 use showing::{show_fault, show_reading_fault, show_record};
 use std::io;
 use std::io::Read;
-use supervision::{BLANK_SECTION, BLANK_TARGET, Mission, new_sections, new_targets};
-use units::Grade;
-use zones::Target;
+use supervision::{BLANK_SECTION, BLANK_TARGET, Lists, Mission};
 
 // The line between two texts.
 const NEXT: &[u8] = b"next\n";
@@ -22,16 +19,17 @@ const NEXT: &[u8] = b"next\n";
 fn main(rt: HostRuntime) -> io::Result<()> {
     let mut texts = Vec::new(rt.alloc());
     rt.stdin().take(1_048_576).read_to_end(&mut texts)?;
-    let texts = texts.as_slice();
-    let mut start = 0;
-    for i in 0..texts.len() {
-        if i >= start && texts[i..].starts_with(NEXT) && (i == 0 || texts[i - 1] == b'\n') {
-            show_mission(&rt, &texts[start..i])?;
+    let lines = texts
+        .as_slice()
+        .split_inclusive(|byte| *byte == b'\n')
+        .collect::<Vec<&[u8]>>(rt.alloc())?;
+    for (i, mission) in lines.as_slice().split(|line| *line == NEXT).enumerate() {
+        if i > 0 {
             println!(rt; "next")?;
-            start = (i + NEXT.len()).min(texts.len());
         }
+        show_mission(&rt, mission.concat(rt.alloc())?.as_slice())?;
     }
-    show_mission(&rt, &texts[start.min(texts.len())..])
+    Ok(())
 }
 
 fn show_mission(rt: &HostRuntime, text: &[u8]) -> io::Result<()> {
@@ -46,11 +44,10 @@ fn show_mission(rt: &HostRuntime, text: &[u8]) -> io::Result<()> {
 fn show_calls(rt: &HostRuntime, sheet: Admitted, text: &[u8]) -> io::Result<()> {
     let mut section_memory = [BLANK_SECTION; 70];
     let mut target_memory = [BLANK_TARGET; 40];
-    let mut sections = new_sections(&mut section_memory);
-    let mut targets = new_targets(&mut target_memory);
+    let mut lists = Lists::new(&mut section_memory, &mut target_memory);
     let model = SheetModel::new(&sheet);
     let mut mission = Mission::over(sheet, model);
-    let shown = show_lines(rt, &mut mission, &mut sections, &mut targets, text);
+    let shown = show_lines(rt, &mut mission, &mut lists, text);
     let Draft { values: _ } = mission.close();
     shown
 }
@@ -58,14 +55,13 @@ fn show_calls(rt: &HostRuntime, sheet: Admitted, text: &[u8]) -> io::Result<()> 
 fn show_lines<M: BrakingModel>(
     rt: &HostRuntime,
     mission: &mut Mission<M>,
-    sections: &mut PlaceList<'_, Grade>,
-    targets: &mut PlaceList<'_, Target>,
+    lists: &mut Lists<'_>,
     text: &[u8],
 ) -> io::Result<()> {
     let lines = read_lines(rt.alloc(), text)?;
     for line in lines.as_slice() {
         match *line {
-            Ok(call) => show_record(rt, mission.apply(sections, targets, call))?,
+            Ok(call) => show_record(rt, mission.apply(lists, call))?,
             Err(fault) => show_reading_fault(rt, fault, mission.phase())?,
         }
     }

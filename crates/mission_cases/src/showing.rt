@@ -1,5 +1,5 @@
 use call_text::CallFault;
-use calls::{Answer, Phase, Record};
+use calls::{Phase, Record, Zone};
 use sheet_text::SheetFault;
 use std::io;
 
@@ -13,15 +13,12 @@ pub(crate) fn show_fault(rt: &HostRuntime, fault: SheetFault) -> io::Result<()> 
 
 // A call with its answer and the phase after it.
 pub(crate) fn show_record(rt: &HostRuntime, entry: Record) -> io::Result<()> {
-    let number = entry.answer.number();
-    let phase = entry.phase.word();
-    match entry.answer {
-        Answer::Sampled(zone) => {
-            let zone = zone.number();
-            println!(rt; "answer={number} phase={phase} zone={zone}")
-        }
-        _ => println!(rt; "answer={number} phase={phase} zone=-"),
-    }
+    show_answer(
+        rt,
+        entry.answer_number(),
+        entry.phase,
+        entry.answer.unwrap_or(None),
+    )
 }
 
 // A line that is no call.
@@ -30,7 +27,15 @@ pub(crate) fn show_reading_fault(
     fault: CallFault,
     phase: Phase,
 ) -> io::Result<()> {
-    let number = fault.number();
-    let phase = phase.word();
-    println!(rt; "answer={number} phase={phase} zone=-")
+    show_answer(rt, fault.number(), phase, None)
+}
+
+fn show_answer(rt: &HostRuntime, number: u8, phase: Phase, zone: Option<Zone>) -> io::Result<()> {
+    match zone {
+        Some(zone) => {
+            let zone = zone.number();
+            println!(rt; "answer={number} phase={phase} zone={zone}")
+        }
+        None => println!(rt; "answer={number} phase={phase} zone=-"),
+    }
 }

@@ -1,5 +1,7 @@
 -- Sequences that differ by one item have the same members but for it.
-use Rattle.std.proofs.Common.{◌≡◌, ℕ, zero, suc, ◌<◌, ◌⊎◌, List, [], ◌∷◌, ◌++◌, length, get_or, sym, refl, subst, inl, inr, arith}
+use Rattle.std.proofs.Common.{◌≡◌, ℕ, zero, suc, ◌<◌, ◌⊎◌, ◌≢◌, Option, Some, None, MatchOption, List, [], ◌∷◌, ◌++◌, length, get_or, sym, refl, subst, inl, inr, arith}
+use Rattle.std.specs.List.{AllWithin, HoldsAt}
+use Rattle.place_list.specs.Finding.{Found}
 use Rattle.place_list.specs.Membership.{In, OneMore}
 
 in_middle : {X : Type 0} (x : X) (front back : List X) → In x (front ++ x ∷ back)
@@ -33,3 +35,9 @@ pub of_each : {X : Type 0} (P : X → Type 0) (xs : List X) → ((d : X) (k : �
 of_each {X} P [] h y k = elim k [ ]
 of_each {X} P (x ∷ xs) h y (inl e) = subst P (sym e) (h x zero (omega arith))
 of_each {X} P (x ∷ xs) h y (inr k) = of_each P xs (λ d j l. h d (suc j) (omega arith)) y k
+
+-- The first index at which the mark is n, as the library finds it.
+pub found_first : {X : Type 0} (mark : X → ℕ) (n : ℕ) (xs : List X) (r : Option ℕ) →
+    MatchOption r (AllWithin (λ y. mark y ≢ n) xs 0 (length xs)) (λ i. (i < length xs) × HoldsAt (λ y. mark y ≡ n) xs i × AllWithin (λ y. mark y ≢ n) xs 0 i) → Found mark n xs r
+found_first mark n xs (Some i) h = record { within = h.0; here = h.1; none_before = λ d k l. h.2 k d (omega arith) l }
+found_first {X} mark n xs None h = of_each (λ (y : X). mark y ≢ n) xs (λ d k l. h k d (omega arith) l)

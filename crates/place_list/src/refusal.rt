@@ -1,8 +1,18 @@
-mod number;
+ghost use Rattle.std.specs.Prelude.{◌≡◌};
+ghost use Rattle.place_list.specs.Refusals.{number};
 
-// Why an insert is refused.
-#[derive(Clone, Copy)]
+// Why an insert is refused, with the number by which it is reported.
+#[derive(Clone, Copy, Debug, PartialEq, Eq, Hash)]
 pub enum Refusal {
     // No more items fit.
-    Full,
+    Full = 11,
+}
+
+impl Refusal {
+    // The number by which a refusal is reported.
+    pub fn number(&self) -> u8
+        ensures { result ≡ number self.now }
+    {
+        *self as u8
+    }
 }

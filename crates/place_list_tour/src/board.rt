@@ -1,7 +1,7 @@
 use place_list::Keyed;
 
 // A board that shows a speed, in tenths of km/h.
-#[derive(Clone, Copy)]
+#[derive(Clone, Copy, Debug, PartialEq, Eq, Hash)]
 pub struct Board {
     pub number: u64,
     pub tenths: u16,

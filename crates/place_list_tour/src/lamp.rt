@@ -10,10 +10,6 @@ impl Keyed for Lamp {
     ghost number = { λ l. lamp_number l };
 
     fn key(&self) -> u64 {
-        match self {
-            Lamp::Red => 1,
-            Lamp::Amber => 2,
-            Lamp::Green => 3,
-        }
+        *self as u64
     }
 }

@@ -26,7 +26,7 @@ fn boards(rt: &HostRuntime) -> io::Result<()> {
         number: 0,
         tenths: 0,
     };
-    let mut memory = [at(0, none), at(0, none), at(0, none), at(0, none)];
+    let mut memory = [at(0, none); 4];
     let mut list = PlaceList::new(&mut memory, 3);
     go_round(
         rt,
@@ -43,7 +43,7 @@ fn boards(rt: &HostRuntime) -> io::Result<()> {
 // Lamps, another type: memory for three, sixty-four allowed.
 fn lamps(rt: &HostRuntime) -> io::Result<()> {
     println!(rt; "lamps")?;
-    let mut memory = [at(0, Lamp::Red), at(0, Lamp::Red), at(0, Lamp::Red)];
+    let mut memory = [at(0, Lamp::Red); 3];
     let mut list = PlaceList::new(&mut memory, 64);
     go_round(
         rt,
@@ -66,7 +66,7 @@ fn no_memory(rt: &HostRuntime) -> io::Result<()> {
 
 fn nothing_allowed(rt: &HostRuntime) -> io::Result<()> {
     println!(rt; "nothing allowed")?;
-    let mut memory = [at(0, Lamp::Red), at(0, Lamp::Red)];
+    let mut memory = [at(0, Lamp::Red); 2];
     let mut list = PlaceList::new(&mut memory, 0);
     offer(rt, &mut list, at(100, Lamp::Green))?;
     show(rt, &list)

@@ -72,10 +72,8 @@ fn exchange<T: Copy>(
 ) -> Option<Result<(), Refusal>>
     ensures { IfSome result (λ answer. is_ok answer ≡ true) }
 {
-    match list.take_out(index) {
-        Some(_) => Some(list.insert(new)),
-        None => None,
-    }
+    list.take_out(index)?;
+    Some(list.insert(new))
 }
 
 // Looks an item up by its place and by its key.

@@ -1,8 +1,6 @@
 -- What is shown of the lines of a text, by the records of the calls among them.
 use Rattle.std.specs.Prelude.{List, [], ◌∷◌, Some, None, Ok, Err, Option, Result}
-use Rattle.calls.specs.Answers.{answer_number}
-use Rattle.calls.specs.declared.answer.Answer.{Answer}
-use Rattle.calls.specs.declared.answer.Answer.TheVariants.{Accepted, Sampled, Refused}
+use Rattle.calls.specs.Answers.{Answer, answer_number}
 use Rattle.calls.specs.declared.call.Call.{Call}
 use Rattle.calls.specs.declared.phase.Phase.{Phase}
 use Rattle.calls.specs.declared.record.Record.{Record}
@@ -13,9 +11,8 @@ use Rattle.session.specs.declared.shown.Shown.{Shown}
 
 -- The zone of an accepted sample.
 abbrev pub zone_in : Answer → Option Zone
-zone_in Accepted = None
-zone_in (Sampled z) = Some z
-zone_in (Refused r) = None
+zone_in (Ok z) = z
+zone_in (Err _) = None
 
 abbrev pub of_fault : CallFault → Phase → Shown
 of_fault f p = record { number = number f; phase = p; zone = None }

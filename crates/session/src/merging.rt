@@ -4,7 +4,7 @@ ghost use Rattle.session.specs.Answers.{answers_to, of_fault, of_record};
 
 use crate::shown::Shown;
 use call_text::CallFault;
-use calls::{Answer, Call, Phase, Record};
+use calls::{Call, Phase, Record};
 use std::alloc::{AllocError, Global};
 
 // What is shown of each line, by the records of its calls in their order; a line with a fault leaves the phase as it is.
@@ -48,14 +48,9 @@ fn shown_fault(fault: CallFault, phase: Phase) -> Shown
 fn shown_record(entry: Record) -> Shown
     ensures { result ≡ of_record entry }
 {
-    let zone = match entry.answer {
-        Answer::Sampled(zone) => Some(zone),
-        Answer::Accepted => None,
-        Answer::Refused(_) => None,
-    };
     Shown {
-        number: entry.answer.number(),
+        number: entry.answer_number(),
         phase: entry.phase,
-        zone,
+        zone: entry.answer.unwrap_or(None),
     }
 }

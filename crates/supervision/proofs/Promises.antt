@@ -1,10 +1,9 @@
 -- What a call of the mission promises, from what its grounds are and what it left.
-use Rattle.std.proofs.Common.{◌≡◌, ℕ, Bool, true, false, cond, not, List, [], ◌∷◌, ◌++◌, Some, None, Option, sym, refl, ap, ◌∙◌, subst, arith}
+use Rattle.std.proofs.Common.{◌≡◌, ℕ, Bool, true, false, cond, not, List, [], ◌∷◌, ◌++◌, Some, None, Err, Option, sym, refl, ap, ◌∙◌, subst, arith}
 use Rattle.units.specs.declared.quantities.Grade.{Grade}
 use Rattle.braking.specs.Laws.{Lawful}
 use Rattle.braking.specs.Meaning.{Meaning}
-use Rattle.calls.specs.declared.answer.Answer.{Answer}
-use Rattle.calls.specs.declared.answer.Answer.TheVariants.{Refused}
+use Rattle.calls.specs.Answers.{Answer}
 use Rattle.calls.specs.declared.call.Call.{Call}
 use Rattle.calls.specs.declared.call.Call.TheVariants.{Slope, Announce, Withdraw, Sample, Release}
 use Rattle.calls.specs.declared.phase.Phase.{Phase}
@@ -20,8 +19,10 @@ use Rattle.history.proofs.Runs.{every_step, led_start}
 use Rattle.place_list.specs.Sequence.{Kept, Unaltered, room}
 use Rattle.place_list.specs.declared.list.PlaceList.{PlaceList}
 use Rattle.zones.specs.declared.target.Target.{Target as TargetItem}
+use Rattle.supervision.proofs.Items.{kept_list, same_list}
 use Rattle.supervision.specs.Lists.{sections_of, targets_of}
-use Rattle.supervision.specs.Missions.{Law, Made, entry, eps_of, state_of}
+use Rattle.supervision.specs.Missions.{Law, Made, SameTrain, entry, eps_of, state_of}
+use Rattle.supervision.specs.declared.lists.Lists.{Lists}
 use Rattle.supervision.specs.declared.mission.Mission.{Mission}
 
 -- The first ground of two lists of grounds, one behind the other.
@@ -49,7 +50,7 @@ same_state {xs} {xs'} {n} {n'} {ts} {ts'} {m} {m'} {p} {p'} {c} {c'} a b d e f g
     ∙ (ap (λ (x : Phase). state xs' n' ts' m' x c) f
     ∙ ap (λ (x : Bool). state xs' n' ts' m' p' x) g))))
 
-does_accepts : (eps : ℕ) (m : Meaning) (s : State) (c : Call) (r : Refusal) → (does eps m s c).answer ≡ Refused r → ⊥
+does_accepts : (eps : ℕ) (m : Meaning) (s : State) (c : Call) (r : Refusal) → (does eps m s c).answer ≡ Err r → ⊥
 does_accepts eps m s (Slope p g) r e = let z : ◌≡◌ {A = ℕ} 0 1 = cc in omega arith
 does_accepts eps m s (Announce n p d v) r e = let z : ◌≡◌ {A = ℕ} 0 1 = cc in omega arith
 does_accepts eps m s (Withdraw n) r e = let z : ◌≡◌ {A = ℕ} 0 1 = cc in omega arith
@@ -63,67 +64,70 @@ sections_same xs xs' u = rw u.sequence_same
 targets_same : (ts ts' : PlaceList TargetItem) → Unaltered ts ts' → targets_of ts' ≡ targets_of ts
 targets_same ts ts' u = rw u.sequence_same
 
-module _ {M : Type 0} (meaning : M → Meaning) (c : Call) (before : Mission M) (xs xs' : PlaceList Grade) (ts ts' : PlaceList TargetItem) (kept : Kept xs xs') (kept' : Kept ts ts') where
+module _ {M : Type 0} (meaning : M → Meaning) (c : Call) (before : Mission M) (ls ls' : Lists) (kept : Kept ls.sections ls'.sections) (kept' : Kept ls.targets ls'.targets) where
   -- the call is refused, and neither the mission nor a list is altered
-  pub refused : (r : Refusal) → first (grounds (meaning before.model) (state_of before xs ts) c) ≡ Some r → Unaltered xs xs' → Unaltered ts ts' → Made meaning c (Refused r) before before xs xs' ts ts'
+  pub refused : (r : Refusal) → first (grounds (meaning before.model) (state_of before ls) c) ≡ Some r → Unaltered ls.sections ls'.sections → Unaltered ls.targets ls'.targets → Made meaning c (Err r) before before ls ls'
   refused r e u v = record {
-    answer = sym (ap (λ (o : Option Refusal). (decide o (state_of before xs ts) (does (eps_of before) (meaning before.model) (state_of before xs ts) c)).answer) e);
-    state = same_state (sections_same xs xs' u) u.room_same (targets_same ts ts' v) v.room_same refl refl
-        ∙ sym (ap (λ (o : Option Refusal). (decide o (state_of before xs ts) (does (eps_of before) (meaning before.model) (state_of before xs ts) c)).state) e);
-    sheet = refl;
-    model = refl;
+    answer = sym (ap (λ (o : Option Refusal). (decide o (state_of before ls) (does (eps_of before) (meaning before.model) (state_of before ls) c)).answer) e);
+    state = same_state (sections_same ls.sections ls'.sections u) u.room_same (targets_same ls.targets ls'.targets v) v.room_same refl refl
+        ∙ sym (ap (λ (o : Option Refusal). (decide o (state_of before ls) (does (eps_of before) (meaning before.model) (state_of before ls) c)).state) e);
+    train = record { sheet = refl; model = refl };
     sections_kept = kept;
     targets_kept = kept';
     nothing = λ r _. (refl, u, v);
   }
 
   -- the call is accepted, and does what it does
-  pub accepted : (after : Mission M) (a : Answer) → first (grounds (meaning before.model) (state_of before xs ts) c) ≡ None →
-      a ≡ (does (eps_of before) (meaning before.model) (state_of before xs ts) c).answer →
-      state_of after xs' ts' ≡ (does (eps_of before) (meaning before.model) (state_of before xs ts) c).state →
-      after.sheet ≡ before.sheet → after.model ≡ before.model → Made meaning c a before after xs xs' ts ts'
-  accepted after a e ans st sh mo = record {
-    answer = ans ∙ sym (ap (λ (o : Option Refusal). (decide o (state_of before xs ts) (does (eps_of before) (meaning before.model) (state_of before xs ts) c)).answer) e);
-    state = st ∙ sym (ap (λ (o : Option Refusal). (decide o (state_of before xs ts) (does (eps_of before) (meaning before.model) (state_of before xs ts) c)).state) e);
-    sheet = sh;
-    model = mo;
+  pub accepted : (after : Mission M) (a : Answer) → first (grounds (meaning before.model) (state_of before ls) c) ≡ None →
+      a ≡ (does (eps_of before) (meaning before.model) (state_of before ls) c).answer →
+      state_of after ls' ≡ (does (eps_of before) (meaning before.model) (state_of before ls) c).state →
+      SameTrain before after → Made meaning c a before after ls ls'
+  accepted after a e ans st same = record {
+    answer = ans ∙ sym (ap (λ (o : Option Refusal). (decide o (state_of before ls) (does (eps_of before) (meaning before.model) (state_of before ls) c)).answer) e);
+    state = st ∙ sym (ap (λ (o : Option Refusal). (decide o (state_of before ls) (does (eps_of before) (meaning before.model) (state_of before ls) c)).state) e);
+    train = same;
     sections_kept = kept;
     targets_kept = kept';
-    nothing = λ r k. absurd (does_accepts (eps_of before) (meaning before.model) (state_of before xs ts) c r (sym ans ∙ k));
+    nothing = λ r k. absurd (does_accepts (eps_of before) (meaning before.model) (state_of before ls) c r (sym ans ∙ k));
   }
+
+-- A call that is refused before it comes to a list.
+pub turned_down : {M : Type 0} (meaning : M → Meaning) (c : Call) (m : Mission M) (ls : Lists) (r : Refusal) → first (grounds (meaning m.model) (state_of m ls) c) ≡ Some r → Made meaning c (Err r) m m ls ls
+turned_down meaning c m ls r e =
+    refused meaning c m ls ls (kept_list ls.sections) (kept_list ls.targets) r e (same_list ls.sections) (same_list ls.targets)
 
 -- The law for a caller who keeps no record.
 abbrev KeptLaw : ℕ → Meaning → History → Record → State → Type 0
 KeptLaw eps m h e s = Led eps m (h ++ e ∷ []) s × KeepsTheLines eps m (h ++ e ∷ [])
 
-law_there : {M : Type 0} (meaning : M → Meaning) → ((m : M) → Lawful (meaning m)) → (c : Call) (a : Answer) (before after : Mission M) (xs xs' : PlaceList Grade) (ts ts' : PlaceList TargetItem) →
-    Made meaning c a before after xs xs' ts ts' → (h : History) → Led (eps_of before) (meaning before.model) h (state_of before xs ts) →
-    KeptLaw (eps_of after) (meaning after.model) h (entry c a after) (state_of after xs' ts')
-law_there meaning lawful c a before after xs xs' ts ts' w h led =
-    let e : entry c a after ≡ entry_of c (step (eps_of before) (meaning before.model) (state_of before xs ts) c) =
-    ap (λ (x : Answer). record { call = c; answer = x; phase = after.phase }) w.answer ∙ ap (λ (x : State). record { call = c; answer = (step (eps_of before) (meaning before.model) (state_of before xs ts) c).answer; phase = x.phase }) w.state in
-    let k : KeptLaw (eps_of before) (meaning before.model) h (entry_of c (step (eps_of before) (meaning before.model) (state_of before xs ts) c)) (step (eps_of before) (meaning before.model) (state_of before xs ts) c).state =
-    every_step (eps_of before) (meaning before.model) (lawful before.model) h (state_of before xs ts) led c in
-    let k₁ : KeptLaw (eps_of before) (meaning before.model) h (entry c a after) (step (eps_of before) (meaning before.model) (state_of before xs ts) c).state =
-    subst (λ (x : Record). KeptLaw (eps_of before) (meaning before.model) h x (step (eps_of before) (meaning before.model) (state_of before xs ts) c).state) (sym e) k in
-    let k₂ : KeptLaw (eps_of before) (meaning before.model) h (entry c a after) (state_of after xs' ts') =
+law_there : {M : Type 0} (meaning : M → Meaning) → ((m : M) → Lawful (meaning m)) → (c : Call) (a : Answer) (before after : Mission M) (ls ls' : Lists) →
+    Made meaning c a before after ls ls' → (h : History) → Led (eps_of before) (meaning before.model) h (state_of before ls) →
+    KeptLaw (eps_of after) (meaning after.model) h (entry c a after) (state_of after ls')
+law_there meaning lawful c a before after ls ls' w h led =
+    let e : entry c a after ≡ entry_of c (step (eps_of before) (meaning before.model) (state_of before ls) c) =
+    ap (λ (x : Answer). record { call = c; answer = x; phase = after.phase }) w.answer ∙ ap (λ (x : State). record { call = c; answer = (step (eps_of before) (meaning before.model) (state_of before ls) c).answer; phase = x.phase }) w.state in
+    let k : KeptLaw (eps_of before) (meaning before.model) h (entry_of c (step (eps_of before) (meaning before.model) (state_of before ls) c)) (step (eps_of before) (meaning before.model) (state_of before ls) c).state =
+    every_step (eps_of before) (meaning before.model) (lawful before.model) h (state_of before ls) led c in
+    let k₁ : KeptLaw (eps_of before) (meaning before.model) h (entry c a after) (step (eps_of before) (meaning before.model) (state_of before ls) c).state =
+    subst (λ (x : Record). KeptLaw (eps_of before) (meaning before.model) h x (step (eps_of before) (meaning before.model) (state_of before ls) c).state) (sym e) k in
+    let k₂ : KeptLaw (eps_of before) (meaning before.model) h (entry c a after) (state_of after ls') =
     subst (λ (x : State). KeptLaw (eps_of before) (meaning before.model) h (entry c a after) x) (sym w.state) k₁ in
-    let k₃ : KeptLaw (eps_of after) (meaning before.model) h (entry c a after) (state_of after xs' ts') =
-    subst (λ (x : ℕ). KeptLaw x (meaning before.model) h (entry c a after) (state_of after xs' ts')) (sym (ap (λ x. x.values.eps) w.sheet)) k₂ in
-    subst (λ x. KeptLaw (eps_of after) (meaning x) h (entry c a after) (state_of after xs' ts')) (sym w.model) k₃
+    let k₃ : KeptLaw (eps_of after) (meaning before.model) h (entry c a after) (state_of after ls') =
+    subst (λ (x : ℕ). KeptLaw x (meaning before.model) h (entry c a after) (state_of after ls')) (sym (ap (λ x. x.values.eps) w.train.sheet)) k₂ in
+    subst (λ x. KeptLaw (eps_of after) (meaning x) h (entry c a after) (state_of after ls')) (sym w.train.model) k₃
 
-pub law_of : {M : Type 0} (meaning : M → Meaning) → ((m : M) → Lawful (meaning m)) → (c : Call) (a : Answer) (before after : Mission M) (xs xs' : PlaceList Grade) (ts ts' : PlaceList TargetItem) →
-    Made meaning c a before after xs xs' ts ts' → Law meaning c a before after xs xs' ts ts'
-law_of meaning lawful c a before after xs xs' ts ts' w = record {
-  leads = λ h led. (law_there meaning lawful c a before after xs xs' ts ts' w h led).0;
-  keeps = λ h led. (law_there meaning lawful c a before after xs xs' ts ts' w h led).1;
+pub law_of : {M : Type 0} (meaning : M → Meaning) → ((m : M) → Lawful (meaning m)) → {c : Call} {a : Answer} {before after : Mission M} {ls ls' : Lists} →
+    Made meaning c a before after ls ls' → Law meaning c a before after ls ls'
+law_of meaning lawful {c} {a} {before} {after} {ls} {ls'} w = record {
+  leads = λ h led. (law_there meaning lawful c a before after ls ls' w h led).0;
+  keeps = λ h led. (law_there meaning lawful c a before after ls ls' w h led).1;
 }
 
 -- A mission as opened, with empty lists.
-pub opened : {M : Type 0} (meaning : M → Meaning) (m : Mission M) (xs : PlaceList Grade) (ts : PlaceList TargetItem) → m.phase ≡ Free → m.clear ≡ false → sections_of xs ≡ [] → targets_of ts ≡ [] →
-    Led (eps_of m) (meaning m.model) [] (state_of m xs ts)
-opened meaning m xs ts p c e f =
-    subst (λ (s : State). Led (eps_of m) (meaning m.model) [] s) (sym (same_state e refl f refl p c)) (led_start (eps_of m) (meaning m.model) (room xs) (room ts))
+pub opened : {M : Type 0} (meaning : M → Meaning) (m : Mission M) (ls : Lists) → m.phase ≡ Free → m.clear ≡ false → sections_of ls.sections ≡ [] → targets_of ls.targets ≡ [] →
+    Led (eps_of m) (meaning m.model) [] (state_of m ls)
+opened meaning m ls p c e f =
+    subst (λ (s : State). Led (eps_of m) (meaning m.model) [] s) (sym (same_state e refl f refl p c)) (led_start (eps_of m) (meaning m.model) (room ls.sections) (room ls.targets))
 
 -- Whether the emergency brake may be let go.
 pub let_go : (p : Phase) (b : Bool) → releasable p b ≡ true → first (ground_for (not (releasable p b)) NotReleasable ∷ []) ≡ None

@@ -21,7 +21,34 @@ pub const BLANK_TARGET: Placed<Target> = Placed {
     },
 };
 
+// The two lists of a mission, which go with each of its calls.
+#[derive(Drop)]
+pub struct Lists<'a> {
+    pub sections: PlaceList<'a, Grade>,
+    pub targets: PlaceList<'a, Target>,
+}
+
+impl<'a> Lists<'a> {
+    // A mission's lists, empty, over the caller's memory: at most 64 sections and 32 targets, fewer in shorter memory.
+    pub fn new(sections: &'a mut [Placed<Grade>], targets: &'a mut [Placed<Target>]) -> Lists<'a>
+        ensures no_sections { sections_of result.sections ≡ [] }
+        ensures no_targets { targets_of result.targets ≡ [] }
+        ensures section_room { room result.sections ≡ min 64 (length sections.old) }
+        ensures target_room { room result.targets ≡ min 32 (length targets.old) }
+        ensures section_memory { memory_of result.sections ≡ sections.old }
+        ensures target_memory { memory_of result.targets ≡ targets.old }
+        ensures sections_lent { loan_of result.sections ≡ sections.entry.ghost_name }
+        ensures targets_lent { loan_of result.targets ≡ targets.entry.ghost_name }
+    {
+        Lists {
+            sections: new_sections(sections),
+            targets: new_targets(targets),
+        }
+    }
+}
+
 // A mission's list of sections, empty, over the caller's memory: at most 64, fewer in shorter memory.
+// What this has in common with `new_targets` is `PlaceList::new`; each adds the number that its rule gives.
 pub fn new_sections<'a>(memory: &'a mut [Placed<Grade>]) -> PlaceList<'a, Grade>
     ensures empty { sections_of result ≡ [] }
     ensures room { room result ≡ min 64 (length memory.old) }
@@ -49,13 +76,12 @@ pub(crate) fn add_section(
 ) -> Result<(), Refusal>
     ensures { SectionAdded place.millimetres grade.thousandths sections.old sections.new result }
 {
-    match sections.find_place(place) {
-        Some(_) => Err(Refusal::Taken),
-        None => match sections.insert(Placed { place, item: grade }) {
-            Ok(()) => Ok(()),
-            Err(_) => Err(Refusal::Full),
-        },
+    if sections.find_place(place).is_some() {
+        return Err(Refusal::Taken);
     }
+    sections
+        .insert(Placed { place, item: grade })
+        .map_err(|_| Refusal::Full)
 }
 
 // Adds a target, unless its number is taken or no more fit.
@@ -66,27 +92,22 @@ pub(crate) fn add_target(
 ) -> Result<(), Refusal>
     ensures { TargetAdded target.number place.millimetres target.speed.tenths targets.old targets.new result }
 {
-    match targets.find_key(target.key()) {
-        Some(_) => Err(Refusal::Taken),
-        None => match targets.insert(Placed {
+    if targets.find_key(target.key()).is_some() {
+        return Err(Refusal::Taken);
+    }
+    targets
+        .insert(Placed {
             place,
             item: target,
-        }) {
-            Ok(()) => Ok(()),
-            Err(_) => Err(Refusal::Full),
-        },
-    }
+        })
+        .map_err(|_| Refusal::Full)
 }
 
 // Takes the target with the number out, if there is one.
 pub(crate) fn take_target(targets: &mut PlaceList<'_, Target>, number: u16) -> Result<(), Refusal>
     ensures { TargetTakenOut number targets.old targets.new result }
 {
-    match targets.find_key(u64::from(number)) {
-        Some(at) => match targets.take_out(at) {
-            Some(_) => Ok(()),
-            None => Err(Refusal::Taken),
-        },
-        None => Err(Refusal::Taken),
-    }
+    let at = targets.find_key(u64::from(number)).ok_or(Refusal::Taken)?;
+    targets.take_out(at).ok_or(Refusal::Taken)?;
+    Ok(())
 }

@@ -1,7 +1,6 @@
 #![tactic(auto)]
 
 mod announced;
-mod limits;
 mod sampling;
 mod stretch;
 mod target;

@@ -1,7 +1,6 @@
 ghost use Rattle.std.specs.Prelude.{◌≡◌, ◌≤◌};
 ghost use Rattle.braking.specs.Answers.{Says};
 ghost use Rattle.braking.specs.Meaning.{Verdict};
-ghost use Rattle.calls.specs.Zones.{larger_zone};
 ghost use Rattle.history.specs.Step.{largest_zone, target_zone, zone as zone_of_sample, zone_of};
 ghost use Rattle.zones.specs.Items.{sections_in, target_of, targets_in};
 ghost use Rattle.zones.specs.Judging.{Judged};
@@ -27,63 +26,52 @@ pub fn sample_zone<M: BrakingModel>(
     if speed.tenths > model.top_speed().speed.tenths {
         return Zone::Control;
     }
-    largest_zone(model, sections, targets, front, speed)
-}
-
-// The largest zone of the targets.
-fn largest_zone<M: BrakingModel>(
-    model: &M,
-    sections: &[Placed<Grade>],
-    targets: &[Placed<Target>],
-    front: Distance,
-    speed: Speed,
-) -> Zone
-    requires { speed.tenths ≤ (M.BrakingModel.meaning model.now).top }
-    ensures { result ≡ largest_zone (M.BrakingModel.meaning model.now) (sections_in sections.now) front.millimetres speed.tenths (targets_in targets.now) }
-{
-    let mut largest = Zone::Clear;
-    for target in targets {
-        largest = raised(largest, model, sections, front, speed, target);
-    }
-    largest
-}
-
-// The zone so far, or the target's where that is larger.
-fn raised<M: BrakingModel>(
-    largest: Zone,
-    model: &M,
-    sections: &[Placed<Grade>],
-    front: Distance,
-    speed: Speed,
-    target: &Placed<Target>,
-) -> Zone
-    requires { speed.tenths ≤ (M.BrakingModel.meaning model.now).top }
-    ensures { result ≡ larger_zone largest (target_zone (M.BrakingModel.meaning model.now) (sections_in sections.now) front.millimetres speed.tenths (target_of target.now)) }
-{
-    let zone = target_zone(model, sections, front, speed, target);
-    largest.larger(zone)
-}
-
-// The zone of a target: clear where it does not bind. The model is asked only where it does.
-fn target_zone<M: BrakingModel>(
-    model: &M,
-    sections: &[Placed<Grade>],
-    front: Distance,
-    speed: Speed,
-    target: &Placed<Target>,
-) -> Zone
-    requires { speed.tenths ≤ (M.BrakingModel.meaning model.now).top }
-    ensures { result ≡ target_zone (M.BrakingModel.meaning model.now) (sections_in sections.now) front.millimetres speed.tenths (target_of target.now) }
-{
-    if !target.item.binds(speed) {
-        return Zone::Clear;
-    }
-    let question = Question {
+    let train = Train {
+        model,
+        sections,
+        front,
         speed,
-        target: target.item.speed,
-        grade: grade_ahead(sections, front, target.place),
     };
-    judged_zone(model.answer(question), front, target.place)
+    train.largest_zone(targets)
+}
+
+// A train whose front is at a place, no faster than its model's top speed, with the sections of its track.
+#[derive(Drop)]
+struct Train<'a, M: BrakingModel> {
+    model: &'a M,
+    sections: &'a [Placed<Grade>],
+    front: Distance,
+    speed: Speed,
+    ghost slow: { speed.tenths ≤ (M.BrakingModel.meaning model.now).top },
+}
+
+impl<'a, M: BrakingModel> Train<'a, M> {
+    // The largest zone of the targets.
+    fn largest_zone(&self, targets: &[Placed<Target>]) -> Zone
+        ensures { result ≡ largest_zone (M.BrakingModel.meaning self.now.model.now) (sections_in self.now.sections.now) self.now.front.millimetres self.now.speed.tenths (targets_in targets.now) }
+    {
+        let mut largest = Zone::Clear;
+        for target in targets {
+            let zone = self.target_zone(target);
+            largest = largest.larger(zone);
+        }
+        largest
+    }
+
+    // The zone of a target: clear where it does not bind. The model is asked only where it does.
+    fn target_zone(&self, target: &Placed<Target>) -> Zone
+        ensures { result ≡ target_zone (M.BrakingModel.meaning self.now.model.now) (sections_in self.now.sections.now) self.now.front.millimetres self.now.speed.tenths (target_of target.now) }
+    {
+        if !target.item.binds(self.speed) {
+            return Zone::Clear;
+        }
+        let question = Question {
+            speed: self.speed,
+            target: target.item.speed,
+            grade: grade_ahead(self.sections, self.front, target.place),
+        };
+        judged_zone(self.model.answer(question), self.front, target.place)
+    }
 }
 
 // The zone by what the model makes of the question: control where it turns it down.

@@ -5,22 +5,21 @@ ghost use Rattle.std.specs.Int.{int_min};
 ghost use Rattle.zones.specs.Items.{section_of, sections_in};
 ghost use Rattle.zones.specs.Stretch.{taken_in};
 
-use crate::limits::STEEPEST;
+use calls::STEEPEST_FALL;
 use place_list::Placed;
 use units::{Distance, Grade};
 
 // The least grade from the front to the place, both ends counted; at the front once the place is passed.
+// A loop, since one test both ends it and takes the section in: `take_while` and `fold` would ask it twice.
 pub fn grade_ahead(sections: &[Placed<Grade>], front: Distance, place: Distance) -> Grade
     ensures { result.thousandths ≡ least_grade steepest front.millimetres place.millimetres (sections_in sections.now) }
 {
-    let mut least = Grade {
-        thousandths: STEEPEST,
-    };
+    let mut least = STEEPEST_FALL;
     for section in sections {
-        match taken_in(least, *section, front, place) {
-            Some(grade) => least = grade,
-            None => return least,
-        }
+        let Some(grade) = taken_in(least, *section, front, place) else {
+            return least;
+        };
+        least = grade;
     }
     least
 }

@@ -11,12 +11,9 @@ impl<'a, T: Copy> PlaceList<'a, T> {
     pub fn find_place(&self, place: Distance) -> Option<usize>
         ensures { Found place_of place.millimetres (sequence self.now) result }
     {
-        for (i, x) in self.items().iter().enumerate() {
-            if x.place.millimetres == place.millimetres {
-                return Some(i);
-            }
-        }
-        None
+        self.items()
+            .iter()
+            .position(|x| x.place.millimetres == place.millimetres)
     }
 }
 
@@ -25,11 +22,6 @@ impl<'a, T: Copy + Keyed> PlaceList<'a, T> {
     pub fn find_key(&self, key: u64) -> Option<usize>
         ensures { Found (λ y. T.Keyed.number y.item) key (sequence self.now) result }
     {
-        for (i, x) in self.items().iter().enumerate() {
-            if x.item.key() == key {
-                return Some(i);
-            }
-        }
-        None
+        self.items().iter().position(|x| x.item.key() == key)
     }
 }

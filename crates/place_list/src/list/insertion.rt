@@ -1,4 +1,5 @@
-ghost use Rattle.std.specs.Prelude.{◌≡◌, ◌+◌, ◌<◌, ◌≤◌, length, MatchResult, OnOk};
+ghost use Rattle.std.specs.Prelude.{◌≡◌, ◌+◌, ◌<◌, ◌≤◌, ◌++◌, drop, length, take, MatchResult, OnOk};
+ghost use Rattle.std.specs.List.{insert};
 ghost use Rattle.place_list.specs.declared.refusal.Refusal.TheVariants.{Full};
 ghost use Rattle.place_list.specs.Insertion.{ComesLast, PutIn, placed_in};
 ghost use Rattle.place_list.specs.Membership.{OneMore};
@@ -36,15 +37,8 @@ impl<'a, T: Copy> PlaceList<'a, T> {
         ensures before { NotGreaterBefore place_of place.millimetres result (sequence self.now) }
         ensures behind { GreaterFrom place_of place.millimetres result (sequence self.now) }
     {
-        let items = self.items();
-        let mut at = items.len();
-        while at > 0 {
-            if items[at - 1].place.millimetres <= place.millimetres {
-                return at;
-            }
-            at -= 1;
-        }
-        at
+        self.items()
+            .partition_point(|x| x.place.millimetres <= place.millimetres)
     }
 
     // Moves the items from the index `at` on one further, and puts the new one there.
@@ -55,12 +49,17 @@ impl<'a, T: Copy> PlaceList<'a, T> {
         requires behind { GreaterFrom place_of (place_of new) at (sequence self.old) }
         ensures { Inserted new self.old self.new }
     {
-        let mut gap = self.len;
-        while gap > at {
-            self.memory[gap] = self.memory[gap - 1];
-            gap -= 1;
-        }
-        self.memory[at] = new;
+        put_among(self.memory, self.len, at, new);
         self.len += 1;
     }
+}
+
+// Puts an item in at the index `at` among the first `len`, over the one behind them.
+fn put_among<T: Copy>(memory: &mut [T], len: usize, at: usize, new: T)
+    requires upto { at ≤ len }
+    requires fits { len < length memory.old }
+    ensures { memory.new ≡ insert (take len memory.old) at new ++ drop (len + 1) memory.old }
+{
+    memory.copy_within(at..len, at + 1);
+    memory[at] = new;
 }

@@ -12,7 +12,7 @@ impl<'a, T: Copy> PlaceList<'a, T> {
         ensures value { result.now ≡ sequence self.now }
         ensures order { Ascending place_of result.now }
     {
-        self.in_use()
+        &self.memory[..self.len]
     }
 
     // How many items stand in the list.
@@ -27,14 +27,6 @@ impl<'a, T: Copy> PlaceList<'a, T> {
         ensures { result ≡ room self.now }
     {
         self.capacity() - self.len
-    }
-
-    // The part of the memory that is in use.
-    fn in_use(&self) -> &[Placed<T>]
-        ensures value { result.now ≡ sequence self.now }
-        ensures order { Ascending place_of result.now }
-    {
-        &self.memory[0..self.len]
     }
 
     // How many items fit, with those that stand in the list.

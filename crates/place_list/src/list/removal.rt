@@ -34,9 +34,7 @@ impl<'a, T: Copy> PlaceList<'a, T> {
         ensures { Removed at result self.old self.new }
     {
         let taken = self.memory[at];
-        for i in at..self.len - 1 {
-            self.memory[i] = self.memory[i + 1];
-        }
+        self.memory.copy_within(at + 1..self.len, at);
         self.len -= 1;
         taken
     }

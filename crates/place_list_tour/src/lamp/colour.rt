@@ -1,7 +1,7 @@
-// The colour of a lamp.
-#[derive(Clone, Copy)]
+// The colour of a lamp, with its number.
+#[derive(Clone, Copy, Debug, PartialEq, Eq, Hash)]
 pub enum Lamp {
-    Red,
-    Amber,
-    Green,
+    Red = 1,
+    Amber = 2,
+    Green = 3,
 }

@@ -1,28 +1,20 @@
 ghost use Rattle.std.specs.Prelude.{◌≡◌};
-ghost use Rattle.supervision.specs.Missions.{Law, Made, answer_of, sample_answer_of};
+ghost use Rattle.supervision.specs.Missions.{Law, Made};
 
+use crate::lists::Lists;
 use crate::mission::Mission;
-use crate::sampled::Sampled;
 use braking::BrakingModel;
-use calls::{Answer, Call, Phase, Record, Refusal};
-use place_list::PlaceList;
-use units::Grade;
-use zones::Target;
+use calls::{Answer, Call, Record};
 
 impl<M: BrakingModel> Mission<M> {
     // Any of the five calls, with the entry that it leaves in the history.
-    pub fn apply(
-        &mut self,
-        sections: &mut PlaceList<'_, Grade>,
-        targets: &mut PlaceList<'_, Target>,
-        call: Call,
-    ) -> Record
+    pub fn apply(&mut self, lists: &mut Lists<'_>, call: Call) -> Record
         ensures call { result.call ≡ call }
         ensures phase { result.phase ≡ self.new.phase }
-        ensures made { Made M.BrakingModel.meaning call result.answer self.old self.new sections.old sections.new targets.old targets.new }
-        ensures law { Law M.BrakingModel.meaning call result.answer self.old self.new sections.old sections.new targets.old targets.new }
+        ensures made { Made M.BrakingModel.meaning call result.answer self.old self.new lists.old lists.new }
+        ensures law { Law M.BrakingModel.meaning call result.answer self.old self.new lists.old lists.new }
     {
-        let answer = self.ask(sections, targets, call);
+        let answer = self.ask(lists, call);
         Record {
             call,
             answer,
@@ -30,46 +22,25 @@ impl<M: BrakingModel> Mission<M> {
         }
     }
 
-    // The call that is asked for.
-    fn ask(
-        &mut self,
-        sections: &mut PlaceList<'_, Grade>,
-        targets: &mut PlaceList<'_, Target>,
-        call: Call,
-    ) -> Answer
-        ensures { Made M.BrakingModel.meaning call result self.old self.new sections.old sections.new targets.old targets.new }
+    // The call that is asked for. Only a sample answers a zone.
+    fn ask(&mut self, lists: &mut Lists<'_>, call: Call) -> Answer
+        ensures { Made M.BrakingModel.meaning call result self.old self.new lists.old lists.new }
     {
         match call {
-            Call::Slope { place, grade } => answered(self.slope(sections, targets, place, grade)),
+            Call::Slope { place, grade } => self.slope(lists, place, grade).map(|_| None),
             Call::Announce {
                 number,
                 point,
                 distance,
                 speed,
-            } => answered(self.announce(sections, targets, number, point, distance, speed)),
-            Call::Withdraw { number } => answered(self.withdraw(sections, targets, number)),
-            Call::Sample { place, speed } => sampled(self.sample(sections, targets, place, speed)),
-            Call::Release => answered(self.release(sections, targets)),
+            } => self
+                .announce(lists, number, point, distance, speed)
+                .map(|_| None),
+            Call::Withdraw { number } => self.withdraw(lists, number).map(|_| None),
+            Call::Sample { place, speed } => self
+                .sample(lists, place, speed)
+                .map(|sample| Some(sample.zone)),
+            Call::Release => self.release(lists).map(|_| None),
         }
-    }
-}
-
-// The answer in a result.
-fn answered(res: Result<Phase, Refusal>) -> Answer
-    ensures { result ≡ answer_of res }
-{
-    match res {
-        Ok(_) => Answer::Accepted,
-        Err(refusal) => Answer::Refused(refusal),
-    }
-}
-
-// So it is with a sample, which answers its zone too.
-fn sampled(res: Result<Sampled, Refusal>) -> Answer
-    ensures { result ≡ sample_answer_of res }
-{
-    match res {
-        Ok(sample) => Answer::Sampled(sample.zone),
-        Err(refusal) => Answer::Refused(refusal),
     }
 }

@@ -1,5 +1,6 @@
 ghost use Rattle.std.specs.Prelude.{◌≡◌};
 ghost use Rattle.history.specs.Step.{is_clear, next};
+ghost use Rattle.supervision.specs.Missions.{SameTrain};
 
 use crate::mission::Mission;
 use braking::BrakingModel;
@@ -10,8 +11,7 @@ impl<M: BrakingModel> Mission<M> {
     pub(super) fn enter(&mut self, zone: Zone)
         ensures phase { self.new.phase ≡ next self.old.phase zone }
         ensures clear { self.new.clear ≡ is_clear zone }
-        ensures sheet { self.new.sheet ≡ self.old.sheet }
-        ensures model { self.new.model ≡ self.old.model }
+        ensures train { SameTrain self.old self.new }
     {
         self.phase = match (self.phase, zone) {
             (Phase::Free, Zone::Clear) => Phase::Free,
@@ -24,18 +24,6 @@ impl<M: BrakingModel> Mission<M> {
             (Phase::Warning, Zone::Control) => Phase::Emergency,
             (Phase::Emergency, _) => Phase::Emergency,
         };
-        self.clear = is_clear(zone);
-    }
-}
-
-// The zone is 0.
-fn is_clear(zone: Zone) -> bool
-    ensures { result ≡ is_clear zone }
-{
-    match zone {
-        Zone::Clear => true,
-        Zone::Nominal => false,
-        Zone::Warning => false,
-        Zone::Control => false,
+        self.clear = zone == Zone::Clear;
     }
 }

@@ -1,9 +1,7 @@
 ghost use Rattle.std.specs.Prelude.{◌≡◌, false, []};
-ghost use Rattle.units.specs.declared.quantities.Grade.{Grade as GradeItem};
 ghost use Rattle.calls.specs.declared.phase.Phase.TheVariants.{Free};
 ghost use Rattle.history.specs.Runs.{Led};
-ghost use Rattle.place_list.specs.declared.list.PlaceList.{PlaceList};
-ghost use Rattle.zones.specs.declared.target.Target.{Target as TargetItem};
+ghost use Rattle.supervision.specs.declared.lists.Lists.{Lists};
 ghost use Rattle.supervision.specs.Lists.{sections_of, targets_of};
 ghost use Rattle.supervision.specs.Missions.{eps_of, state_of};
 
@@ -19,7 +17,7 @@ impl<M: BrakingModel> Mission<M> {
         ensures sheet { result.sheet ≡ sheet }
         ensures phase { result.phase ≡ Free }
         ensures clear { result.clear ≡ false }
-        ensures law { (xs : PlaceList GradeItem) (ts : PlaceList TargetItem) → sections_of xs ≡ [] → targets_of ts ≡ [] → Led (eps_of result) (M.BrakingModel.meaning result.model) [] (state_of result xs ts) }
+        ensures law { (lists : Lists) → sections_of lists.sections ≡ [] → targets_of lists.targets ≡ [] → Led (eps_of result) (M.BrakingModel.meaning result.model) [] (state_of result lists) }
     {
         Mission {
             model,

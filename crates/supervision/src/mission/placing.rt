@@ -1,14 +1,13 @@
 ghost use Rattle.std.specs.Prelude.{◌≡◌, false, IfOk};
 ghost use Rattle.calls.specs.declared.call.Call.TheVariants.{Announce, Slope, Withdraw};
 ghost use Rattle.supervision.specs.Limits.{Announced};
-ghost use Rattle.supervision.specs.Missions.{Law, Made, answer_of, eps_of};
+ghost use Rattle.supervision.specs.Missions.{Law, Made, SameTrain, answer_of, eps_of};
 
 use crate::limits::ask_slope;
-use crate::lists::{add_section, add_target, take_target};
+use crate::lists::{Lists, add_section, add_target, take_target};
 use crate::mission::Mission;
 use braking::BrakingModel;
 use calls::{Phase, Refusal};
-use place_list::PlaceList;
 use units::{Distance, Grade, Speed};
 use zones::{Target, target_place};
 
@@ -16,51 +15,47 @@ impl<M: BrakingModel> Mission<M> {
     // Adds a section of this grade, which reaches from its place up to, not at, the next one's.
     pub fn slope(
         &mut self,
-        sections: &mut PlaceList<'_, Grade>,
-        targets: &PlaceList<'_, Target>,
+        lists: &mut Lists<'_>,
         place: Distance,
         grade: Grade,
     ) -> Result<Phase, Refusal>
-        ensures made { Made M.BrakingModel.meaning (Slope place grade) (answer_of result) self.old self.new sections.old sections.new targets.now targets.now }
+        ensures made { Made M.BrakingModel.meaning (Slope place grade) (answer_of result) self.old self.new lists.old lists.new }
         ensures phase { IfOk result (λ p. p ≡ self.new.phase) }
-        ensures law { Law M.BrakingModel.meaning (Slope place grade) (answer_of result) self.old self.new sections.old sections.new targets.now targets.now }
+        ensures targets { lists.new.targets ≡ lists.old.targets }
+        ensures law { Law M.BrakingModel.meaning (Slope place grade) (answer_of result) self.old self.new lists.old lists.new }
     {
         ask_slope(place, grade)?;
-        add_section(sections, place, grade)?;
+        add_section(&mut lists.sections, place, grade)?;
         Ok(self.accept())
     }
 
     // Adds a target by its number. It stands behind the point by the distance, less the sheet's share of that distance.
     pub fn announce(
         &mut self,
-        sections: &PlaceList<'_, Grade>,
-        targets: &mut PlaceList<'_, Target>,
+        lists: &mut Lists<'_>,
         number: u16,
         point: Distance,
         distance: Distance,
         speed: Speed,
     ) -> Result<Phase, Refusal>
-        ensures made { Made M.BrakingModel.meaning (Announce number point distance speed) (answer_of result) self.old self.new sections.now sections.now targets.old targets.new }
+        ensures made { Made M.BrakingModel.meaning (Announce number point distance speed) (answer_of result) self.old self.new lists.old lists.new }
         ensures phase { IfOk result (λ p. p ≡ self.new.phase) }
-        ensures law { Law M.BrakingModel.meaning (Announce number point distance speed) (answer_of result) self.old self.new sections.now sections.now targets.old targets.new }
+        ensures sections { lists.new.sections ≡ lists.old.sections }
+        ensures law { Law M.BrakingModel.meaning (Announce number point distance speed) (answer_of result) self.old self.new lists.old lists.new }
     {
         let place = self.announced_place(point, distance, speed)?;
-        add_target(targets, place, Target { number, speed })?;
+        add_target(&mut lists.targets, place, Target { number, speed })?;
         Ok(self.accept())
     }
 
     // Takes the target with the number out.
-    pub fn withdraw(
-        &mut self,
-        sections: &PlaceList<'_, Grade>,
-        targets: &mut PlaceList<'_, Target>,
-        number: u16,
-    ) -> Result<Phase, Refusal>
-        ensures made { Made M.BrakingModel.meaning (Withdraw number) (answer_of result) self.old self.new sections.now sections.now targets.old targets.new }
+    pub fn withdraw(&mut self, lists: &mut Lists<'_>, number: u16) -> Result<Phase, Refusal>
+        ensures made { Made M.BrakingModel.meaning (Withdraw number) (answer_of result) self.old self.new lists.old lists.new }
         ensures phase { IfOk result (λ p. p ≡ self.new.phase) }
-        ensures law { Law M.BrakingModel.meaning (Withdraw number) (answer_of result) self.old self.new sections.now sections.now targets.old targets.new }
+        ensures sections { lists.new.sections ≡ lists.old.sections }
+        ensures law { Law M.BrakingModel.meaning (Withdraw number) (answer_of result) self.old self.new lists.old lists.new }
     {
-        take_target(targets, number)?;
+        take_target(&mut lists.targets, number)?;
         Ok(self.accept())
     }
 
@@ -69,8 +64,7 @@ impl<M: BrakingModel> Mission<M> {
         ensures value { result ≡ self.new.phase }
         ensures phase { self.new.phase ≡ self.old.phase }
         ensures clear { self.new.clear ≡ false }
-        ensures sheet { self.new.sheet ≡ self.old.sheet }
-        ensures model { self.new.model ≡ self.old.model }
+        ensures train { SameTrain self.old self.new }
     {
         self.clear = false;
         self.phase
@@ -85,14 +79,11 @@ impl<M: BrakingModel> Mission<M> {
     ) -> Result<Distance, Refusal>
         ensures { Announced (eps_of self.now) (M.BrakingModel.meaning self.now.model).top point.millimetres distance.millimetres speed.tenths result }
     {
-        match target_place(point, distance, self.sheet.values().eps) {
-            None => Err(Refusal::PlaceOutOfLimits),
-            Some(place) => {
-                if speed.tenths > self.model.top_speed().speed.tenths {
-                    return Err(Refusal::TooFast);
-                }
-                Ok(place)
-            }
+        let eps = self.sheet.values().eps;
+        let place = target_place(point, distance, eps).ok_or(Refusal::PlaceOutOfLimits)?;
+        if speed.tenths > self.model.top_speed().speed.tenths {
+            return Err(Refusal::TooFast);
         }
+        Ok(place)
     }
 }

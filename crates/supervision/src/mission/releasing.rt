@@ -3,23 +3,17 @@ ghost use Rattle.calls.specs.declared.call.Call.TheVariants.{Release};
 ghost use Rattle.history.specs.Step.{releasable};
 ghost use Rattle.supervision.specs.Missions.{Law, Made, answer_of};
 
+use crate::lists::Lists;
 use crate::mission::Mission;
 use braking::BrakingModel;
 use calls::{Phase, Refusal};
-use place_list::PlaceList;
-use units::Grade;
-use zones::Target;
 
 impl<M: BrakingModel> Mission<M> {
     // Lets the emergency brake go, where the last accepted call was a sample in zone 0.
-    pub fn release(
-        &mut self,
-        sections: &PlaceList<'_, Grade>,
-        targets: &PlaceList<'_, Target>,
-    ) -> Result<Phase, Refusal>
-        ensures made { Made M.BrakingModel.meaning Release (answer_of result) self.old self.new sections.now sections.now targets.now targets.now }
+    pub fn release(&mut self, lists: &Lists<'_>) -> Result<Phase, Refusal>
+        ensures made { Made M.BrakingModel.meaning Release (answer_of result) self.old self.new lists.now lists.now }
         ensures phase { IfOk result (λ p. p ≡ self.new.phase) }
-        ensures law { Law M.BrakingModel.meaning Release (answer_of result) self.old self.new sections.now sections.now targets.now targets.now }
+        ensures law { Law M.BrakingModel.meaning Release (answer_of result) self.old self.new lists.now lists.now }
     {
         if !self.releasable() {
             return Err(Refusal::NotReleasable);
@@ -33,10 +27,6 @@ impl<M: BrakingModel> Mission<M> {
     fn releasable(&self) -> bool
         ensures { result ≡ releasable self.now.phase self.now.clear }
     {
-        match self.phase {
-            Phase::Free => false,
-            Phase::Warning => false,
-            Phase::Emergency => self.clear,
-        }
+        self.phase == Phase::Emergency && self.clear
     }
 }

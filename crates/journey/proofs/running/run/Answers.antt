@@ -16,11 +16,10 @@ returns g c =
     let room = min 64 (length c.args.sections.now) in
     let space = min 32 (length c.args.targets.now) in
     let o = c.over-mission.ensures in
-    let xs = c.new_sections-section_list.ensures in
-    let ts = c.new_targets-target_list.ensures in
-    let same = opened_run g.M.BrakingModel.meaning c.over-mission.result c.args.sheet c.args.model c.new_sections-section_list.result c.new_targets-target_list.result
+    let ls = c.new-lists.ensures in
+    let same = opened_run g.M.BrakingModel.meaning c.over-mission.result c.args.sheet c.args.model c.new-lists.result
     (min 64 (length c.args.sections.now)) (min 32 (length c.args.targets.now)) c.args.calls.now
-    o.sheet o.model o.phase o.clear xs.empty xs.room ts.empty ts.room in
+    o.sheet o.model o.phase o.clear ls.no_sections ls.section_room ls.no_targets ls.target_room in
     let history : IfOk c.follow-records.result (λ v. vec_items v ≡ run c.args.sheet.values.eps (g.M.BrakingModel.meaning c.args.model) (start (min 64 (length c.args.sections.now)) (min 32 (length c.args.targets.now))) c.args.calls.now) =
     made_as c.follow-records.result c.follow-records.ensures.history (λ v e. e ∙ same) in
     record {
@@ -28,5 +27,5 @@ returns g c =
       history = history;
       lines = made_as c.follow-records.result history (λ v e. subst (λ (h : History). KeepsTheLines c.args.sheet.values.eps (g.M.BrakingModel.meaning c.args.model) h) (sym e) (every_run eps m (g.met.M.BrakingModel.lawful c.args.model) room space c.args.calls.now));
       grades = made_as c.follow-records.result history (λ v e. subst GivesOneGrade (sym e) (one_grade eps m room space c.args.calls.now));
-      draft = c.close.ensures ∙ ap (λ (s : Admitted). s.values) (c.follow-records.ensures.sheet ∙ o.sheet);
+      draft = c.close.ensures ∙ ap (λ (s : Admitted). s.values) (c.follow-records.ensures.train.sheet ∙ o.sheet);
     }

@@ -1,20 +1,17 @@
-use Rattle.place_list.specs.Sequence.{room}
-use Rattle.supervision.proofs.Items.{kept_list, room_less, same_list, section_free, section_full, section_put, section_taken}
+use Rattle.std.proofs.Common.{◌∙◌, sym, rules}
+use Rattle.place_list.specs.Places.{place_of}
+use Rattle.place_list.specs.Sequence.{sequence}
+use Rattle.supervision.proofs.Items.{found_none, found_some, full_for_call, kept_list, same_list, section_added, section_taken}
 use Rattle.supervision.proofs.lists.add_section.Goals as goal
 
-pub returns-in-Some : goal.returns-in-Some
-returns-in-Some c = (section_taken c.args.sections.now c.args.place.millimetres c.in-Some.field-0 c.in-Some.ensures, same_list c.args.sections.now, kept_list c.args.sections.now)
+pub returns-then-is_some : goal.returns-then-is_some
+returns-then-is_some c =
+    let at = found_some place_of c.args.place.millimetres (sequence c.args.sections.now) c.find_place.result c.find_place.ensures (sym c.is_some.ensures ∙ c.if-is_some.true) in
+    (section_taken c.args.sections.now c.args.place.millimetres at.0 at.1, same_list c.args.sections.now, kept_list c.args.sections.now)
 
-pub returns-in-Ok : goal.returns-in-Ok
-returns-in-Ok c =
-    let w = c.in-Ok.ensures in (
-      section_free c.args.sections.now c.args.place.millimetres c.in-None.ensures w.refused,
-      section_put c.args.sections.now c.insert.new.self c.args.place.millimetres c.args.grade.thousandths w.result,
-      room_less (room c.args.sections.now) (room c.insert.new.self) w.room,
-      w.kept,
-    )
-
-pub returns-in-Err : goal.returns-in-Err
-returns-in-Err c =
-    let w = c.in-Err.ensures in
-    (section_full c.args.sections.now c.args.place.millimetres c.in-None.ensures w.refused.1, w.result, w.kept)
+pub returns : goal.returns
+returns c =
+    let none = found_none place_of c.args.place.millimetres (sequence c.args.sections.now) c.find_place.result c.find_place.ensures (sym c.is_some.ensures ∙ c.if-is_some.false) in
+    let w = c.insert.ensures in
+    section_added c.args.sections.now c.insert.new.self c.args.place.millimetres c.args.grade.thousandths c.insert.result c.map_err.result none w.refused w.result w.room w.kept
+    (full_for_call c.insert.result c.map_err.result _ c.map_err.ensures.cases (λ e z q. search rules))

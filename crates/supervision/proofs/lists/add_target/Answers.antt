@@ -1,27 +1,19 @@
-use Rattle.std.proofs.Common.{ℕ, None, subst}
-use Rattle.place_list.specs.Finding.{FirstAt, Found}
-use Rattle.place_list.specs.Sequence.{room, sequence}
-use Rattle.supervision.proofs.Items.{kept_list, number_of, room_less, same_list, target_free, target_full, target_put, target_taken}
+use Rattle.std.proofs.Common.{◌∙◌, sym, ℕ, subst, rules}
+use Rattle.place_list.specs.Finding.{Found}
+use Rattle.place_list.specs.Sequence.{sequence}
+use Rattle.supervision.proofs.Items.{found_none, found_some, full_for_call, kept_list, number_of, same_list, target_added, target_taken}
 use Rattle.supervision.proofs.lists.add_target.Goals as goal
 
-pub returns-in-Some : goal.returns-in-Some
-returns-in-Some c = (
-  target_taken c.args.targets.now c.args.target.number c.in-Some.field-0
-      (subst (λ (n : ℕ). FirstAt number_of n (sequence c.args.targets.now) c.in-Some.field-0) c.key.ensures c.in-Some.ensures),
-  same_list c.args.targets.now,
-  kept_list c.args.targets.now,
-)
+pub returns-then-is_some : goal.returns-then-is_some
+returns-then-is_some c =
+    let found : Found number_of c.args.target.number (sequence c.args.targets.now) c.find_key.result = subst (λ (n : ℕ). Found number_of n (sequence c.args.targets.now) c.find_key.result) c.key.ensures c.find_key.ensures in
+    let at = found_some number_of c.args.target.number (sequence c.args.targets.now) c.find_key.result found (sym c.is_some.ensures ∙ c.if-is_some.true) in
+    (target_taken c.args.targets.now c.args.target.number at.0 at.1, same_list c.args.targets.now, kept_list c.args.targets.now)
 
-pub returns-in-Ok : goal.returns-in-Ok
-returns-in-Ok c =
-    let w = c.in-Ok.ensures in (
-      target_free c.args.targets.now c.args.target.number (subst (λ (n : ℕ). Found number_of n (sequence c.args.targets.now) None) c.key.ensures c.in-None.ensures) w.refused,
-      target_put c.args.targets.now c.insert.new.self c.args.target.number c.args.place.millimetres c.args.target.speed.tenths w.result,
-      room_less (room c.args.targets.now) (room c.insert.new.self) w.room,
-      w.kept,
-    )
-
-pub returns-in-Err : goal.returns-in-Err
-returns-in-Err c =
-    let w = c.in-Err.ensures in
-    (target_full c.args.targets.now c.args.target.number (subst (λ (n : ℕ). Found number_of n (sequence c.args.targets.now) None) c.key.ensures c.in-None.ensures) w.refused.1, w.result, w.kept)
+pub returns : goal.returns
+returns c =
+    let found : Found number_of c.args.target.number (sequence c.args.targets.now) c.find_key.result = subst (λ (n : ℕ). Found number_of n (sequence c.args.targets.now) c.find_key.result) c.key.ensures c.find_key.ensures in
+    let none = found_none number_of c.args.target.number (sequence c.args.targets.now) c.find_key.result found (sym c.is_some.ensures ∙ c.if-is_some.false) in
+    let w = c.insert.ensures in
+    target_added c.args.targets.now c.insert.new.self c.args.target.number c.args.place.millimetres c.args.target.speed.tenths c.insert.result c.map_err.result none w.refused w.result w.room w.kept
+    (full_for_call c.insert.result c.map_err.result _ c.map_err.ensures.cases (λ e z q. search rules))

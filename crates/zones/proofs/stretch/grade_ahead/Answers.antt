@@ -2,9 +2,9 @@ use Rattle.std.proofs.Common.{sym, ◌∙◌}
 use Rattle.zones.proofs.Least.{goes_on, ends, done}
 use Rattle.zones.proofs.stretch.grade_ahead.Goals as goal
 
-pub returns-in-None : goal.returns-in-None
-returns-in-None c =
-    sym (ends c.loop-section.least c.args.front.millimetres c.args.place.millimetres c.args.sections.now c.loop-section.section-index _ c.loop-section-test.true c.in-None.ensures)
+pub returns-in_default : goal.returns-in_default
+returns-in_default c =
+    sym (ends c.loop-section.least c.args.front.millimetres c.args.place.millimetres c.args.sections.now c.loop-section.section-index _ c.loop-section-test.true (sym c.in_default.is ∙ c.taken_in.ensures))
     ∙ c.loop-section.invariant
 
 pub loop-section-preserved : goal.loop-section-preserved

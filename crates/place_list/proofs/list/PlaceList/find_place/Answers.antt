@@ -1,12 +1,13 @@
-use Rattle.std.proofs.Common.{◌≡◌, List, subst, arith}
-use Rattle.place_list.specs.Membership.{In}
+use Rattle.std.proofs.Common.{◌≡◌, ◌≢◌, ◌∙◌, rules, tests}
+use Rattle.std.proofs.lemmas.Iterator.{IsFirst-from_position, YieldsList-from_slice}
 use Rattle.place_list.specs.Places.{place_of}
-use Rattle.place_list.specs.declared.placed.Placed.{Placed}
-use Rattle.place_list.proofs.Members.{of_each}
+use Rattle.place_list.specs.Sequence.{sequence}
+use Rattle.place_list.proofs.Members.{found_first}
 use Rattle.place_list.proofs.list.PlaceList.find_place.Goals as goal
 
 pub returns : goal.returns
 returns g c =
-    let p = c.args.place.millimetres in
-    let none = of_each (λ (y : Placed g.row.T.Denot). place_of y ≡ p → ⊥) c.items-x-items.result.now (λ d k l. c.loop-i.invariant d k (omega arith)) in
-    subst (λ (xs : List (Placed g.row.T.Denot)). (y : Placed g.row.T.Denot) → In y xs → place_of y ≡ p → ⊥) c.items-x-items.ensures.value none
+    let mark = (place_of {T = g.row.T.Denot}) in
+    let items = YieldsList-from_slice (sequence c.args.self.now) (c.iter.ensures.rest ∙ c.items.ensures.value) in
+    found_first mark c.args.place.millimetres _ _
+    (IsFirst-from_position _ _ _ (λ y. mark y ≡ c.args.place.millimetres) (λ y. mark y ≢ c.args.place.millimetres) c.position.ensures.ran items (λ x q k. search (rules, tests)) (λ x q k. search (rules, tests)))
