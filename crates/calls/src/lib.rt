@@ -2,7 +2,6 @@
 
 mod answer;
 mod call;
-mod limits;
 mod phase;
 mod record;
 mod refusal;
@@ -10,7 +9,6 @@ mod zone;
 
 pub use answer::Answer;
 pub use call::Call;
-pub use limits::{FASTEST, FURTHEST, STEEPEST_FALL, STEEPEST_RISE};
 pub use phase::Phase;
 pub use record::Record;
 pub use refusal::Refusal;

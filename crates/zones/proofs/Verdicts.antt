@@ -1,13 +1,11 @@
 -- The zone of a target by what a model answers.
-use Rattle.std.proofs.Common.{◌≡◌, ℕ, ◌≤◌, true, false, cond, ltb, ◌⊎◌, List, ℤ, pos, negsuc, ◌≤ℤ◌, ◌<ℤ◌, Ok, Err, Result, sym, ap, ◌∙◌, inl, inr, arith}
+use Rattle.std.proofs.Common.{◌≡◌, ℕ, ◌≤◌, true, false, cond, ltb, ◌⊎◌, List, ℤ, pos, negsuc, ◌≤ℤ◌, ◌<ℤ◌, Ok, Err, Result, Option, Some, sym, ap, ◌∙◌, inl, inr, arith}
 use lib.Signed.{lt_z}
 use Rattle.std.proofs.lemmas.Int.{ints}
 use Rattle.std.proofs.lemmas.Bool.{cond-true, cond-false, ltb-true, or_from, or_left, or_right}
 use Rattle.units.specs.Fractions.{Fraction}
 use Rattle.braking.specs.Meaning.{Meaning, Three, Verdict, weak, strong}
 use Rattle.braking.specs.Answers.{Answered, Due, Says}
-use Rattle.braking.specs.declared.answer.Answer.{Answer}
-use Rattle.braking.specs.declared.answer.Answer.TheVariants.{Strong}
 use Rattle.braking.specs.declared.distances.Distances.{Distances}
 use Rattle.braking.specs.declared.refusal.Refusal.{Refusal}
 use Rattle.braking.specs.declared.refusal.Refusal.TheVariants.{TooFast, GradeOutOfLimits, NotBinding}
@@ -20,7 +18,7 @@ use Rattle.zones.specs.Judging.{Judged}
 
 -- the distances of an answer are those of the verdict
 pub by_distances : (z : Zone) (d : Distances) (front place : ℕ) → ((exact : Three Fraction) → z ≡ zone_of (strong exact (computed d)) front place) →
-    (v : Verdict) → Says v (Strong d) → z ≡ zone_of v front place
+    (v : Verdict) → Says v (Some d) → z ≡ zone_of v front place
 by_distances z d front place h weak s = absurd s
 by_distances z d front place h (strong exact c) s = let e = h exact in simp (s.0, s.1, s.2) at e
 
@@ -39,7 +37,7 @@ unfit g (inl low) = or_left (lt_z g (negsuc 34)) (lt_z (pos 35) g) (grind (arith
 unfit g (inr high) = or_right (lt_z g (negsuc 34)) (lt_z (pos 35) g) (grind (arith, ints))
 
 -- where the model answers, it is by the verdict
-answered : (m : Meaning) (sections : List Section) (front speed : ℕ) (t : Target) (g : ℤ) (a : Answer) (z : Zone) → g ≡ least_grade steepest front t.place sections → ltb t.speed speed ≡ true →
+answered : (m : Meaning) (sections : List Section) (front speed : ℕ) (t : Target) (g : ℤ) (a : Option Distances) (z : Zone) → g ≡ least_grade steepest front t.place sections → ltb t.speed speed ≡ true →
     Answered m (record { speed = speed; target = t.speed; grade = g }) (Ok a) →
     ((v : Verdict) → Says v a → z ≡ zone_of v front t.place) → z ≡ target_zone m sections front speed t
 answered m sections front speed t g a z ahead binds facts says =
@@ -62,7 +60,7 @@ turned_down : (m : Meaning) (sections : List Section) (front speed : ℕ) (t : T
     Due m.top (record { speed = speed; target = t.speed; grade = g }) e → Control ≡ target_zone m sections front speed t
 turned_down m sections front speed t g e ahead slow binds due = down m front speed t g e slow binds due ∙ ap (zone_on m front speed t) ahead
 
-pub judged : (m : Meaning) (sections : List Section) (front speed : ℕ) (t : Target) (g : ℤ) (r : Result Answer Refusal) (z : Zone) → g ≡ least_grade steepest front t.place sections → speed ≤ m.top → ltb t.speed speed ≡ true →
+pub judged : (m : Meaning) (sections : List Section) (front speed : ℕ) (t : Target) (g : ℤ) (r : Result (Option Distances) Refusal) (z : Zone) → g ≡ least_grade steepest front t.place sections → speed ≤ m.top → ltb t.speed speed ≡ true →
     Answered m (record { speed = speed; target = t.speed; grade = g }) r →
     Judged r front t.place z → z ≡ target_zone m sections front speed t
 judged m sections front speed t g (Ok a) z ahead slow binds facts is = answered m sections front speed t g a z ahead binds facts is

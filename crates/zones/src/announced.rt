@@ -3,14 +3,13 @@ ghost use Rattle.units.specs.Rounding.{ceiling};
 ghost use Rattle.history.specs.Step.{furthest};
 ghost use Rattle.zones.specs.Announced.{Placing};
 
-use calls::FURTHEST;
-use units::{Distance, Divisor, quotient_up};
+use units::{Distance, Divisor, FURTHEST, quotient_up};
 
 // Where a target stands that is announced at a distance from a point, eps percent of the distance nearer; none beyond the furthest place.
 pub fn target_place(point: Distance, distance: Distance, eps: u16) -> Option<Distance>
     ensures { Placing eps point.millimetres distance.millimetres result }
 {
-    if point.millimetres > FURTHEST.millimetres || distance.millimetres > FURTHEST.millimetres {
+    if point > FURTHEST || distance > FURTHEST {
         return None;
     }
     let end = point.millimetres + distance.millimetres;

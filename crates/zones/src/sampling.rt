@@ -8,7 +8,7 @@ ghost use Rattle.zones.specs.Judging.{Judged};
 use crate::stretch::grade_ahead;
 use crate::target::Target;
 use crate::within::zone_within;
-use braking::{Answer, BrakingModel, Question, Refusal};
+use braking::{BrakingModel, Distances, Question, Refusal};
 use calls::Zone;
 use place_list::Placed;
 use units::{Distance, Grade, Speed};
@@ -23,7 +23,7 @@ pub fn sample_zone<M: BrakingModel>(
 ) -> Zone
     ensures { result ≡ zone_of_sample (M.BrakingModel.meaning model.now) (sections_in sections.now) (targets_in targets.now) front.millimetres speed.tenths }
 {
-    if speed.tenths > model.top_speed().speed.tenths {
+    if speed > model.top_speed().speed {
         return Zone::Control;
     }
     let train = Train {
@@ -75,7 +75,7 @@ impl<'a, M: BrakingModel> Train<'a, M> {
 }
 
 // The zone by what the model makes of the question: control where it turns it down.
-fn judged_zone(judged: Result<Answer, Refusal>, front: Distance, place: Distance) -> Zone
+fn judged_zone(judged: Result<Option<Distances>, Refusal>, front: Distance, place: Distance) -> Zone
     ensures { Judged judged front.millimetres place.millimetres result }
 {
     match judged {
@@ -85,11 +85,11 @@ fn judged_zone(judged: Result<Answer, Refusal>, front: Distance, place: Distance
 }
 
 // The zone by the model's answer: control where the brake is too weak.
-fn answered_zone(answer: Answer, front: Distance, place: Distance) -> Zone
+fn answered_zone(answer: Option<Distances>, front: Distance, place: Distance) -> Zone
     ensures { (verdict : Verdict) → Says verdict answer → result ≡ zone_of verdict front.millimetres place.millimetres }
 {
     match answer {
-        Answer::Weak => Zone::Control,
-        Answer::Strong(distances) => zone_within(distances, front, place),
+        None => Zone::Control,
+        Some(distances) => zone_within(distances, front, place),
     }
 }

@@ -5,9 +5,8 @@ ghost use Rattle.std.specs.Int.{int_min};
 ghost use Rattle.zones.specs.Items.{section_of, sections_in};
 ghost use Rattle.zones.specs.Stretch.{taken_in};
 
-use calls::STEEPEST_FALL;
 use place_list::Placed;
-use units::{Distance, Grade};
+use units::{Distance, Grade, STEEPEST_FALL};
 
 // The least grade from the front to the place, both ends counted; at the front once the place is passed.
 // A loop, since one test both ends it and takes the section in: `take_while` and `fold` would ask it twice.
@@ -28,19 +27,11 @@ pub fn grade_ahead(sections: &[Placed<Grade>], front: Distance, place: Distance)
 fn taken_in(least: Grade, section: Placed<Grade>, front: Distance, place: Distance) -> Option<Grade>
     ensures { result ≡ taken_in least (section_of section) front.millimetres place.millimetres }
 {
-    if section.place.millimetres <= front.millimetres {
+    if section.place <= front {
         Some(section.item)
-    } else if section.place.millimetres <= place.millimetres {
-        Some(lower(least, section.item))
+    } else if section.place <= place {
+        Some(least.min(section.item))
     } else {
         None
-    }
-}
-
-fn lower(a: Grade, b: Grade) -> Grade
-    ensures { result.thousandths ≡ int_min a.thousandths b.thousandths }
-{
-    Grade {
-        thousandths: a.thousandths.min(b.thousandths),
     }
 }

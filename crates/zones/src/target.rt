@@ -15,7 +15,7 @@ impl Target {
     pub fn binds(self, speed: Speed) -> bool
         ensures { result ≡ nat_lt self.speed.tenths speed.tenths }
     {
-        speed.tenths > self.speed.tenths
+        speed > self.speed
     }
 }
 

@@ -13,7 +13,7 @@ impl<'a, T: Copy> PlaceList<'a, T> {
     {
         self.items()
             .iter()
-            .position(|x| x.place.millimetres == place.millimetres)
+            .position(|x| x.place == place)
     }
 }
 

@@ -81,7 +81,7 @@ impl<M: BrakingModel> Mission<M> {
     {
         let eps = self.sheet.values().eps;
         let place = target_place(point, distance, eps).ok_or(Refusal::PlaceOutOfLimits)?;
-        if speed.tenths > self.model.top_speed().speed.tenths {
+        if speed > self.model.top_speed().speed {
             return Err(Refusal::TooFast);
         }
         Ok(place)
