@@ -5,9 +5,8 @@ ghost use Rattle.history.specs.Step.{largest_zone, target_zone, zone as zone_of_
 ghost use Rattle.zones.specs.Items.{sections_in, target_of, targets_in};
 ghost use Rattle.zones.specs.Judging.{Judged};
 
-use crate::stretch::grade_ahead;
+use crate::stretch::Stretch;
 use crate::target::Target;
-use crate::within::zone_within;
 use braking::{BrakingModel, Distances, Question, Refusal};
 use calls::Zone;
 use place_list::Placed;
@@ -65,31 +64,35 @@ impl<'a, M: BrakingModel> Train<'a, M> {
         if !target.item.binds(self.speed) {
             return Zone::Clear;
         }
+        let stretch = Stretch {
+            front: self.front,
+            place: target.place,
+        };
         let question = Question {
             speed: self.speed,
             target: target.item.speed,
-            grade: grade_ahead(self.sections, self.front, target.place),
+            grade: stretch.grade_ahead(self.sections),
         };
-        judged_zone(self.model.answer(question), self.front, target.place)
+        judged_zone(self.model.answer(question), stretch)
     }
 }
 
 // The zone by what the model makes of the question: control where it turns it down.
-fn judged_zone(judged: Result<Option<Distances>, Refusal>, front: Distance, place: Distance) -> Zone
-    ensures { Judged judged front.millimetres place.millimetres result }
+fn judged_zone(judged: Result<Option<Distances>, Refusal>, stretch: Stretch) -> Zone
+    ensures { Judged judged stretch.front.millimetres stretch.place.millimetres result }
 {
     match judged {
-        Ok(answer) => answered_zone(answer, front, place),
+        Ok(answer) => answered_zone(answer, stretch),
         Err(_) => Zone::Control,
     }
 }
 
 // The zone by the model's answer: control where the brake is too weak.
-fn answered_zone(answer: Option<Distances>, front: Distance, place: Distance) -> Zone
-    ensures { (verdict : Verdict) → Says verdict answer → result ≡ zone_of verdict front.millimetres place.millimetres }
+fn answered_zone(answer: Option<Distances>, stretch: Stretch) -> Zone
+    ensures { (verdict : Verdict) → Says verdict answer → result ≡ zone_of verdict stretch.front.millimetres stretch.place.millimetres }
 {
     match answer {
         None => Zone::Control,
-        Some(distances) => zone_within(distances, front, place),
+        Some(distances) => stretch.zone_within(distances),
     }
 }

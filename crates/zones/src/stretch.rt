@@ -1,37 +1,67 @@
 ghost use Rattle.std.specs.Prelude.{◌≡◌};
+ghost use Rattle.units.specs.Fractions.{Fraction};
+ghost use Rattle.braking.specs.Meaning.{Three, strong};
 ghost use Rattle.history.specs.History.{steepest};
-ghost use Rattle.history.specs.Step.{least_grade};
-ghost use Rattle.std.specs.Int.{int_min};
+ghost use Rattle.history.specs.Step.{least_grade, zone_of};
+ghost use Rattle.zones.specs.Computed.{computed};
 ghost use Rattle.zones.specs.Items.{section_of, sections_in};
-ghost use Rattle.zones.specs.Stretch.{taken_in};
 
+use braking::Distances;
+use calls::Zone;
 use place_list::Placed;
 use units::{Distance, Grade, STEEPEST_FALL};
 
-// The least grade from the front to the place, both ends counted; at the front once the place is passed.
-// A loop, since one test both ends it and takes the section in: `take_while` and `fold` would ask it twice.
-pub fn grade_ahead(sections: &[Placed<Grade>], front: Distance, place: Distance) -> Grade
-    ensures { result.thousandths ≡ least_grade steepest front.millimetres place.millimetres (sections_in sections.now) }
-{
-    let mut least = STEEPEST_FALL;
-    for section in sections {
-        let Some(grade) = taken_in(least, *section, front, place) else {
-            return least;
-        };
-        least = grade;
-    }
-    least
+// The track from the front of a train to a place, which may be passed already.
+#[derive(Clone, Copy, Debug, PartialEq, Eq)]
+pub struct Stretch {
+    pub front: Distance,
+    pub place: Distance,
 }
 
-// The least grade with one more section: its own from the front on, the lower of both ahead. None where it begins beyond the place.
-fn taken_in(least: Grade, section: Placed<Grade>, front: Distance, place: Distance) -> Option<Grade>
-    ensures { result ≡ taken_in least (section_of section) front.millimetres place.millimetres }
-{
-    if section.place <= front {
-        Some(section.item)
-    } else if section.place <= place {
-        Some(least.min(section.item))
-    } else {
-        None
+impl Stretch {
+    ghost use Rattle.zones.specs.Stretch.{taken_in};
+
+    // The least grade of the stretch, both ends counted; at the front once the place is passed.
+    // A loop, since one test both ends it and takes the section in: `take_while` and `fold` would ask it twice.
+    pub fn grade_ahead(self, sections: &[Placed<Grade>]) -> Grade
+        ensures { result.thousandths ≡ least_grade steepest self.front.millimetres self.place.millimetres (sections_in sections.now) }
+    {
+        let mut least = STEEPEST_FALL;
+        for section in sections {
+            let Some(grade) = self.taken_in(least, *section) else {
+                return least;
+            };
+            least = grade;
+        }
+        least
+    }
+
+    // The zone of the place by the distance left to it, which is none once it is passed.
+    pub fn zone_within(self, distances: Distances) -> Zone
+        ensures { (exact : Three Fraction) → result ≡ zone_of (strong exact (computed distances)) self.front.millimetres self.place.millimetres }
+    {
+        let left = self.place.millimetres.saturating_sub(self.front.millimetres);
+        if left <= distances.control.millimetres {
+            Zone::Control
+        } else if left <= distances.warning.millimetres {
+            Zone::Warning
+        } else if left <= distances.nominal.millimetres {
+            Zone::Nominal
+        } else {
+            Zone::Clear
+        }
+    }
+
+    // The least grade with one more section: its own from the front on, the lower of both ahead. None where it begins beyond the place.
+    fn taken_in(self, least: Grade, section: Placed<Grade>) -> Option<Grade>
+        ensures { result ≡ taken_in least (section_of section) self.front.millimetres self.place.millimetres }
+    {
+        if section.place <= self.front {
+            Some(section.item)
+        } else if section.place <= self.place {
+            Some(least.min(section.item))
+        } else {
+            None
+        }
     }
 }
