@@ -2,23 +2,17 @@
 
 ghost use Rattle.history.specs.Theorem.{EveryRunKeepsTheLines, EveryStepKeepsTheLines, EveryStretchHasOneGrade};
 
-// Whatever is called, the history of a mission over a lawful model keeps the three lines. Says nothing of its answer.
-pub fn every_run_keeps_the_lines() -> u8
+// Whatever is called, the history of a mission over a lawful model keeps the three lines.
+pub fn every_run_keeps_the_lines()
     ensures { EveryRunKeepsTheLines }
-{
-    0
-}
+{}
 
-// A history with one more call behind it leads to the state after the call, and keeps the three lines. Says nothing of its answer.
-pub fn every_step_keeps_the_lines() -> u8
+// A history with one more call behind it leads to the state after the call, and keeps the three lines.
+pub fn every_step_keeps_the_lines()
     ensures { EveryStepKeepsTheLines }
-{
-    0
-}
+{}
 
-// Every stretch ahead has one grade, so that every binding target has one question. Says nothing of its answer.
-pub fn every_stretch_has_one_grade() -> u8
+// Every stretch ahead has one grade, so that every binding target has one question.
+pub fn every_stretch_has_one_grade()
     ensures { EveryStretchHasOneGrade }
-{
-    0
-}
+{}
