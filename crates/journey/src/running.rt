@@ -39,6 +39,7 @@ pub fn run<M: BrakingModel + Drop>(
 }
 
 // Makes the calls in their order, and keeps the record of each.
+// A loop: of a closure that changes the mission, the proof of a chain would know nothing.
 fn follow<M: BrakingModel>(
     heap: Global,
     mission: &mut Mission<M>,

@@ -56,24 +56,22 @@ fn show_question(
     front: Distance,
     speed: Speed,
 ) -> io::Result<()> {
-    match target_place(POINT, DISTANCE, SHEET.eps) {
-        None => println!(rt; "no place"),
-        Some(place) => {
-            let grade = grade_ahead(&SECTIONS, front, place);
-            let thousandths = grade.thousandths;
-            let left = place.millimetres.saturating_sub(front.millimetres);
-            print!(rt; "grade={thousandths} left={left} ")?;
-            show_distances(
-                rt,
-                brake,
-                Question {
-                    speed,
-                    target: ALLOWED,
-                    grade,
-                },
-            )
-        }
-    }
+    let Some(place) = target_place(POINT, DISTANCE, SHEET.eps) else {
+        return println!(rt; "no place");
+    };
+    let grade = grade_ahead(&SECTIONS, front, place);
+    let thousandths = grade.thousandths;
+    let left = place.millimetres.saturating_sub(front.millimetres);
+    print!(rt; "grade={thousandths} left={left} ")?;
+    show_distances(
+        rt,
+        brake,
+        Question {
+            speed,
+            target: ALLOWED,
+            grade,
+        },
+    )
 }
 
 // The three distances, or `weak`, or the number of the refusal.

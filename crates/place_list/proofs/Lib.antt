@@ -1,5 +1,5 @@
 pub mod Ascents
-pub mod Gaps
+pub mod Inserts
 pub mod Members
 pub mod Removals
 pub mod Splits

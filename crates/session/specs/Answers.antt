@@ -1,5 +1,5 @@
 -- What is shown of the lines of a text, by the records of the calls among them.
-use Rattle.std.specs.Prelude.{List, [], ◌∷◌, Some, None, Ok, Err, Option, Result}
+use Rattle.std.specs.Prelude.{List, [], ◌∷◌, None, Ok, Err, Option, Result}
 use Rattle.calls.specs.Answers.{Answer, answer_number}
 use Rattle.calls.specs.declared.call.Call.{Call}
 use Rattle.calls.specs.declared.phase.Phase.{Phase}

@@ -1,7 +1,7 @@
 use calls::{Phase, Zone};
 
 // What an accepted sample answers.
-#[derive(Clone, Copy)]
+#[derive(Clone, Copy, Debug, PartialEq, Eq, Hash)]
 pub struct Sampled {
     pub phase: Phase,
     pub zone: Zone,

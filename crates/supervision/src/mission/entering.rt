@@ -7,7 +7,7 @@ use braking::BrakingModel;
 use calls::{Phase, Zone};
 
 impl<M: BrakingModel> Mission<M> {
-    // The new phase follows from the phase before and the zone together.
+    // The new phase follows from the phase before and the zone together: one match, as the rule is one table.
     pub(super) fn enter(&mut self, zone: Zone)
         ensures phase { self.new.phase ≡ next self.old.phase zone }
         ensures clear { self.new.clear ≡ is_clear zone }

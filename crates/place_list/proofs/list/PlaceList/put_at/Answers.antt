@@ -2,7 +2,7 @@ use Rattle.std.proofs.Common.{◌≡◌, ◌+◌, ◌<◌, ◌≤◌, min, lengt
 use Rattle.std.proofs.lemmas.List.{length-take-le}
 use Rattle.place_list.specs.Insertion.{PutIn}
 use Rattle.place_list.specs.Places.{place_of}
-use Rattle.place_list.proofs.Gaps.{first_put, put_in, rest_put, whole_put}
+use Rattle.place_list.proofs.Inserts.{first_put, put_in, rest_put, whole_put}
 use Rattle.place_list.proofs.Members.{one_more}
 use Rattle.place_list.proofs.Splits.{ascends_put_in, comes_last, put_in_is}
 use Rattle.place_list.proofs.list.PlaceList.put_at.Goals as goal

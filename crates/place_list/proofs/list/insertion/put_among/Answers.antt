@@ -1,5 +1,5 @@
 use Rattle.std.proofs.Common.{ap, set, List, ◌∙◌}
-use Rattle.place_list.proofs.Gaps.{put_over}
+use Rattle.place_list.proofs.Inserts.{put_over}
 use Rattle.place_list.proofs.list.insertion.put_among.Goals as goal
 
 pub returns : goal.returns
