@@ -1,10 +1,10 @@
 use crate::script::{ALLOWED, DISTANCE, POINT, SECTIONS, SHEET};
-use braking::{Answer, BrakingModel, Question};
+use braking::{BrakingModel, Question};
 use calls::{Call, Record};
 use constant_brake::ConstantBrake;
 use std::io;
 use units::{Distance, Speed};
-use zones::{grade_ahead, target_place};
+use zones::{Stretch, target_place};
 
 // A call, for a sample the question that its target is judged by, and what the call was answered.
 pub(crate) fn show_record(
@@ -59,41 +59,22 @@ fn show_question(
     let Some(place) = target_place(POINT, DISTANCE, SHEET.eps) else {
         return println!(rt; "no place");
     };
-    let grade = grade_ahead(&SECTIONS, front, place);
-    let thousandths = grade.thousandths;
-    let left = place.millimetres.saturating_sub(front.millimetres);
-    print!(rt; "grade={thousandths} left={left} ")?;
-    show_distances(
-        rt,
-        brake,
-        Question {
-            speed,
-            target: ALLOWED,
-            grade,
-        },
-    )
-}
-
-// The three distances, or `weak`, or the number of the refusal.
-fn show_distances(rt: &HostRuntime, brake: &ConstantBrake, question: Question) -> io::Result<()> {
+    let stretch = Stretch { front, place };
+    let grade = stretch.grade_ahead(&SECTIONS);
+    print!(rt;
+        "grade={} left={} ",
+        grade.thousandths,
+        place.millimetres.saturating_sub(front.millimetres)
+    )?;
+    let question = Question {
+        speed,
+        target: ALLOWED,
+        grade,
+    };
     match brake.answer(question) {
-        Err(refusal) => {
-            let number = refusal.number();
-            println!(rt; "answer={number}")
-        }
-        Ok(answer) => show_verdict(rt, answer),
-    }
-}
-
-fn show_verdict(rt: &HostRuntime, answer: Answer) -> io::Result<()> {
-    match answer {
-        Answer::Weak => println!(rt; "weak"),
-        Answer::Strong(distances) => {
-            let control = distances.control.millimetres;
-            let warning = distances.warning.millimetres;
-            let nominal = distances.nominal.millimetres;
-            println!(rt; "control={control} warning={warning} nominal={nominal}")
-        }
+        Err(refusal) => println!(rt; "answer={}", refusal.number()),
+        Ok(None) => println!(rt; "weak"),
+        Ok(Some(distances)) => println!(rt; "{distances}"),
     }
 }
 
@@ -103,8 +84,7 @@ fn show_answer(rt: &HostRuntime, record: Record) -> io::Result<()> {
     print!(rt; "answer={number} phase={phase} zone=")?;
     match record.answer {
         Ok(Some(zone)) => print!(rt; "{}", zone.number())?,
-        Ok(None) => print!(rt; "-")?,
-        Err(_) => print!(rt; "-")?,
+        Ok(None) | Err(_) => print!(rt; "-")?,
     }
     let traction = if phase.cuts_traction() { "cut" } else { "on" };
     let brake = if phase.applies_brake() { "on" } else { "off" };

@@ -19,8 +19,7 @@ fn main(rt: HostRuntime) -> io::Result<()> {
         Err(rejected) => {
             let Rejected { refusal, draft } = rejected;
             let Draft { values: _ } = draft;
-            let number = refusal.number();
-            println!(rt; "answer={number}")
+            println!(rt; "answer={}", refusal.number())
         }
     }
 }
@@ -31,8 +30,7 @@ fn open(rt: &HostRuntime, sheet: Admitted) -> io::Result<()> {
         Ok(brake) => follow(rt, sheet, brake),
         Err(refusal) => {
             let Draft { values: _ } = sheet.into_draft();
-            let number = refusal.number();
-            println!(rt; "answer={number}")
+            println!(rt; "answer={}", refusal.number())
         }
     }
 }
