@@ -28,10 +28,9 @@ fn show_row(rt: &HostRuntime, model: &SheetModel, speed: u64, grade: i64) -> io:
 // For a stop, a row for each speed in steps of 10 km/h up to the top, and at each speed for each grade.
 pub(crate) fn show_table(rt: &HostRuntime, model: &SheetModel) -> io::Result<()> {
     println!(rt; "speed grade control warning nominal")?;
-    let steps = model.top_speed().speed.tenths / 100;
-    for step in 1..=steps {
+    for speed in (100..=model.top_speed().speed.tenths).step_by(100) {
         for grade in &GRADES {
-            show_row(rt, model, step * 100, *grade)?;
+            show_row(rt, model, speed, *grade)?;
         }
     }
     Ok(())

@@ -42,7 +42,7 @@ impl Rules for EtcsRules {
         numbers::ETCS_DELAY
     }
 
-    // Of the five factors only two are not 1.
+    // Of the five factors only two are not 1. The cast at the end is proved to lose nothing; `From` goes only to what holds every value.
     fn braking(sheet: &FitValues, approach: Approach) -> Deceleration {
         let starting = starting(sheet.values.lambda);
         let shared = counted(sheet.values.kr).scale(starting);

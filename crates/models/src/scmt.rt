@@ -82,7 +82,7 @@ impl Rules for ScmtRules {
         numbers::SCMT_DELAY
     }
 
-    // All five factors.
+    // All five factors. The cast at the end is proved to lose nothing; `From` goes only to what holds every value.
     fn braking(sheet: &FitValues, approach: Approach) -> Deceleration {
         let starting = starting(sheet.values.lambda);
         let faded = fading(sheet.fading_speed(), approach).scale(starting);

@@ -22,6 +22,7 @@ fn is_weak(net: Deceleration) -> bool
 }
 
 // A speed after a loss, in fine steps; a loss below zero is a gain.
+// A cast, here and below: `From` goes only to what holds every value, and the check proves that the cast loses nothing.
 fn after_loss(speed: Speed, loss: i64) -> i64
     requires slow { speed.tenths ≤ 4000 }
     requires not_below { negsuc 907199 ≤ℤ loss }

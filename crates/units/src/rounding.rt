@@ -24,5 +24,6 @@ pub fn quotient_floor(over: i64, under: Divisor) -> i64
     ensures value { result ≡ floor over under.value }
     ensures meaning { Floored over under.value result }
 {
+    // in 128 bits, since a divisor may be above every i64; the cast back is proved to lose nothing
     i128::from(over).div_euclid(i128::from(under.value)) as i64
 }
