@@ -1,10 +1,9 @@
 -- What a question is answered: the refusals in their order, else the verdict of the model's meaning.
-use Rattle.std.specs.Prelude.{◌≡◌, ℕ, ◌<◌, ◌≤◌, ◌⊎◌, pos, negsuc, ◌<ℤ◌, Ok, Err, Result}
+use Rattle.std.specs.Prelude.{◌≡◌, ℕ, ◌<◌, ◌≤◌, ◌⊎◌, pos, negsuc, ◌<ℤ◌, Ok, Err, Result, Some, None, Option}
 use Rattle.braking.specs.Meaning.{Meaning, Question, Verdict, Asked, Binds, weak, strong}
 use Rattle.braking.specs.declared.question.Question.{Question as QuestionStruct}
 use Rattle.braking.specs.declared.approach.Approach.{Approach}
-use Rattle.braking.specs.declared.answer.Answer.{Answer}
-use Rattle.braking.specs.declared.answer.Answer.TheVariants.{Weak, Strong}
+use Rattle.braking.specs.declared.distances.Distances.{Distances}
 use Rattle.braking.specs.declared.refusal.Refusal.{Refusal}
 use Rattle.braking.specs.declared.refusal.Refusal.TheVariants.{TooFast, GradeOutOfLimits, NotBinding}
 
@@ -14,12 +13,6 @@ question_of q = record { speed = q.speed.tenths; target = q.target.tenths; grade
 
 abbrev pub asked_of : Approach → Question
 asked_of a = record { speed = a.speed.tenths; target = a.target.tenths; grade = a.grade.thousandths }
-
--- The number of each refusal.
-abbrev pub number : Refusal → ℕ
-number TooFast = 8
-number GradeOutOfLimits = 9
-number NotBinding = 13
 
 -- When a refusal is due, by the top speed: each is asked only where those before it are not due.
 abbrev pub Due : ℕ → Question → Refusal → Type 0
@@ -32,13 +25,13 @@ abbrev pub Asking : ℕ → Question → Result Approach Refusal → Type 0
 Asking top q (Ok a) = Asked top q × Binds q × (asked_of a ≡ q)
 Asking top q (Err e) = Due top q e
 
--- The answer says what the verdict says.
-abbrev pub Says : Verdict → Answer → Type 0
-Says weak Weak = Unit {0}
-Says weak (Strong d) = ⊥
-Says (strong e c) Weak = ⊥
-Says (strong e c) (Strong d) = (d.control.millimetres ≡ c.control) × (d.warning.millimetres ≡ c.warning) × (d.nominal.millimetres ≡ c.nominal)
+-- The answer says what the verdict says: it has no distances where that is weak.
+abbrev pub Says : Verdict → Option Distances → Type 0
+Says weak None = Unit {0}
+Says weak (Some d) = ⊥
+Says (strong e c) None = ⊥
+Says (strong e c) (Some d) = (d.control.millimetres ≡ c.control) × (d.warning.millimetres ≡ c.warning) × (d.nominal.millimetres ≡ c.nominal)
 
-abbrev pub Answered : Meaning → Question → Result Answer Refusal → Type 0
+abbrev pub Answered : Meaning → Question → Result (Option Distances) Refusal → Type 0
 Answered m q (Ok a) = Asked m.top q × Binds q × Says (m.verdict q) a
 Answered m q (Err e) = Due m.top q e

@@ -1,3 +1,5 @@
 pub mod Meaning
 pub mod Laws
 pub mod Answers
+pub mod Refusals
+pub mod Printed

@@ -3,7 +3,7 @@ ghost use Rattle.std.specs.Prelude.{◌<◌, ◌≤◌, pos, negsuc, ◌≤ℤ�
 use units::{Grade, Speed};
 
 // A question that can be answered: the speeds and the grade are within limits, and the train is faster than the target allows.
-#[derive(Clone, Copy)]
+#[derive(Clone, Copy, Debug, PartialEq, Eq)]
 pub struct Approach {
     pub speed: Speed,
     pub target: Speed,

@@ -1,10 +1,11 @@
 ghost use Rattle.std.specs.Prelude.{◌≡◌};
-ghost use Rattle.braking.specs.Answers.{Asking, number, question_of};
+ghost use Rattle.braking.specs.Answers.{Asking, question_of};
 
 use crate::approach::Approach;
 use crate::question::Question;
 use crate::refusal::Refusal;
 use crate::top_speed::TopSpeed;
+use units::{STEEPEST_FALL, STEEPEST_RISE};
 
 impl Question {
     // The question as one that a model with this top speed answers, or the reason why it is turned down.
@@ -16,13 +17,13 @@ impl Question {
             target,
             grade,
         } = self;
-        if speed.tenths > top.speed.tenths || target.tenths > top.speed.tenths {
+        if speed > top.speed || target > top.speed {
             return Err(Refusal::TooFast);
         }
-        if grade.thousandths < -35 || grade.thousandths > 35 {
+        if grade < STEEPEST_FALL || grade > STEEPEST_RISE {
             return Err(Refusal::GradeOutOfLimits);
         }
-        if speed.tenths <= target.tenths {
+        if speed <= target {
             return Err(Refusal::NotBinding);
         }
         Ok(Approach {
@@ -30,18 +31,5 @@ impl Question {
             target,
             grade,
         })
-    }
-}
-
-impl Refusal {
-    // The number that stands for the refusal.
-    pub fn number(self) -> u8
-        ensures { result ≡ number self }
-    {
-        match self {
-            Refusal::TooFast => 8,
-            Refusal::GradeOutOfLimits => 9,
-            Refusal::NotBinding => 13,
-        }
     }
 }

@@ -1,13 +1,27 @@
-ghost use Rattle.std.specs.Prelude.{◌≤◌};
+ghost use Rattle.std.specs.Prelude.{◌≤◌, Some};
 
+use std::fmt;
 use units::Distance;
 
 // The three braking distances; the type keeps them in order.
-#[derive(Clone, Copy)]
+#[derive(Clone, Copy, Debug, PartialEq, Eq)]
 pub struct Distances {
     pub control: Distance,
     pub warning: Distance,
     pub nominal: Distance,
     ghost control_first: { control.millimetres ≤ warning.millimetres },
     ghost nominal_last: { warning.millimetres ≤ nominal.millimetres },
+}
+
+impl fmt::Display for Distances {
+    ghost use Rattle.braking.specs.Printed.{distances_text};
+
+    ghost output = { λ d. Some (distances_text d) };
+
+    fn fmt<W: fmt::Write>(&self, f: &mut fmt::Formatter<W>) -> fmt::Result {
+        let control = self.control.millimetres;
+        let warning = self.warning.millimetres;
+        let nominal = self.nominal.millimetres;
+        write!(f, "control={control} warning={warning} nominal={nominal}")
+    }
 }

@@ -1,6 +1,5 @@
 #![tactic(auto)]
 
-mod answer;
 mod approach;
 mod asking;
 mod braking_model;
@@ -9,7 +8,6 @@ mod question;
 mod refusal;
 mod top_speed;
 
-pub use answer::Answer;
 pub use approach::Approach;
 pub use braking_model::BrakingModel;
 pub use distances::Distances;

@@ -1,3 +1,1 @@
-mod Fitting
 mod Plainly
-mod Showing

@@ -3,7 +3,8 @@ use Rattle.std.specs.Prelude.{ℕ, ◌*◌}
 use Rattle.units.specs.Fractions.{whole}
 use Rattle.braking.specs.Meaning.{Meaning, Question}
 use Rattle.stopping.specs.Slopes.{slope_of}
-use Rattle.stopping.specs.Stops.{Stop, net_exact, verdict}
+use Rattle.stopping.specs.Meanings.{meaning_by}
+use Rattle.stopping.specs.Stops.{Stop}
 use Rattle.constant_brake.specs.declared.brake_data.BrakeData.{BrakeData}
 
 -- The deceleration of the brake alone, in units: ten thousand are 1 mm/s².
@@ -28,8 +29,4 @@ stop_for d tw ti q = record {
 }
 
 abbrev pub meaning_of : BrakeData → (tw ti : ℕ) → Meaning
-meaning_of d tw ti = record {
-  top = d.top.tenths;
-  deceleration = λ q. net_exact (stop_for d tw ti q);
-  verdict = λ q. verdict (stop_for d tw ti q);
-}
+meaning_of d tw ti = meaning_by d.top.tenths (stop_for d tw ti)

@@ -5,9 +5,8 @@ use Rattle.units.specs.Fractions.{whole}
 use Rattle.braking.specs.Meaning.{Question, Asked, Binds}
 use Rattle.braking.specs.Laws.{Lawful}
 use Rattle.stopping.specs.Stops.{Limited, Near}
-use Rattle.stopping.specs.Working.{Lawful as LawfulStop}
 use Rattle.stopping.proofs.Gradients.{slope_not_below, slope_not_above}
-use Rattle.stopping.proofs.Margin.{lawful}
+use Rattle.stopping.proofs.Lawfully.{lawful_by}
 use Rattle.constant_brake.specs.Formulas.{braking_units, stop_for, meaning_of}
 use Rattle.constant_brake.specs.declared.brake_data.BrakeData.{BrakeData}
 
@@ -27,13 +26,5 @@ module _ (d : BrakeData) (tw ti : ℕ) (brief : d.reaction ≤ 200) (slow : d.to
     ti_brief = ti_brief;
   }
 
-  stop_lawful : (q : Question) → Asked d.top.tenths q → Binds q → LawfulStop (stop_for d tw ti q)
-  stop_lawful q asked binds = lawful (stop_for d tw ti q) (stop_limited q asked binds) (whole_near (braking_units d))
-
   pub brake_lawful : Lawful (meaning_of d tw ti)
-  brake_lawful = record {
-    top_bounded = slow;
-    weak_below = λ q asked binds. (stop_lawful q asked binds).weak_below;
-    strong_above = λ q asked binds. (stop_lawful q asked binds).strong_above;
-    sound = λ q asked binds. (stop_lawful q asked binds).sound;
-  }
+  brake_lawful = lawful_by d.top.tenths (stop_for d tw ti) slow stop_limited (λ q asked binds. whole_near (braking_units d))

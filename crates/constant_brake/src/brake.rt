@@ -3,7 +3,7 @@ ghost use Rattle.std.specs.Prelude.{◌≤◌};
 use crate::brake_data::BrakeData;
 
 // A maker's brake with numbers that are in their ranges, and the two times of a train sheet.
-#[derive(Clone, Copy)]
+#[derive(Clone, Copy, Debug, PartialEq, Eq)]
 pub struct ConstantBrake {
     pub(crate) stated: BrakeData,
     // the warning time, in tenths of a second

@@ -1,7 +1,7 @@
 use units::Speed;
 
 // What a maker states of a brake that slows the train equally at every speed, a fixed time after it is called for.
-#[derive(Clone, Copy)]
+#[derive(Clone, Copy, Debug, PartialEq, Eq)]
 pub struct BrakeData {
     // the deceleration on the level, in mm/s²
     pub deceleration: u16,

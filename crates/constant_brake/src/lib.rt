@@ -5,8 +5,6 @@ mod brake;
 mod brake_data;
 mod making;
 mod refusal;
-mod refusal_number;
-mod working;
 
 pub use brake::ConstantBrake;
 pub use brake_data::BrakeData;

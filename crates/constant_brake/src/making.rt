@@ -6,7 +6,7 @@ use crate::brake::ConstantBrake;
 use crate::brake_data::BrakeData;
 use crate::refusal::Refusal;
 use sheet::Admitted;
-use units::Speed;
+use units::{FASTEST, Speed};
 
 // The least and the greatest deceleration, in mm/s².
 const WEAKEST: u16 = 300;
@@ -15,9 +15,6 @@ const STRONGEST: u16 = 2_000;
 
 // The longest reaction time, in tenths of a second.
 const LONGEST: u16 = 200;
-
-// The highest top speed, in tenths of km/h.
-const FASTEST: u64 = 4_000;
 
 // Whether a deceleration in mm/s² is in its range.
 fn deceleration_fits(deceleration: u16) -> bool
@@ -37,7 +34,7 @@ fn reaction_fits(reaction: u16) -> bool
 fn top_fits(top: Speed) -> bool
     ensures { result ≡ top_fits top.tenths }
 {
-    top.tenths <= FASTEST
+    top <= FASTEST
 }
 
 impl ConstantBrake {

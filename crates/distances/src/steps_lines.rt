@@ -1,19 +1,6 @@
-use braking::{Answer, Question};
+use braking::Question;
 use models::SheetModel;
 use std::io;
-use stopping::Steps;
-
-fn show_answer(rt: &HostRuntime, answer: Answer) -> io::Result<()> {
-    match answer {
-        Answer::Weak => println!(rt; "weak"),
-        Answer::Strong(distances) => {
-            let control = distances.control.millimetres;
-            let warning = distances.warning.millimetres;
-            let nominal = distances.nominal.millimetres;
-            println!(rt; "control={control}\nwarning={warning}\nnominal={nominal}")
-        }
-    }
-}
 
 // A question with each of its steps, or the number of its refusal.
 pub(crate) fn show_steps(
@@ -21,29 +8,22 @@ pub(crate) fn show_steps(
     model: &SheetModel,
     question: Question,
 ) -> io::Result<()> {
-    let speed = question.speed.tenths;
-    let target = question.target.tenths;
-    let grade = question.grade.thousandths;
-    println!(rt; "speed={speed} target={target} grade={grade}")?;
-    match model.steps(question) {
-        Err(refusal) => {
-            let number = refusal.number();
-            println!(rt; "answer={number}")
-        }
-        Ok(steps) => {
-            let Steps {
-                reaction,
-                slope,
-                reached,
-                net,
-                answer,
-            } = steps;
-            let ticks = reaction.ticks;
-            let slope = slope.units;
-            let reached = reached.steps;
-            let net = net.units;
-            println!(rt; "reaction={ticks}\nslope={slope}\nreached={reached}\nnet={net}")?;
-            show_answer(rt, answer)
-        }
-    }
+    println!(rt;
+        "speed={} target={} grade={}",
+        question.speed.tenths, question.target.tenths, question.grade.thousandths
+    )?;
+    let steps = match model.steps(question) {
+        Err(refusal) => return println!(rt; "answer={}", refusal.number()),
+        Ok(steps) => steps,
+    };
+    println!(rt; "reaction={}", steps.reaction.ticks)?;
+    println!(rt; "slope={}", steps.slope.units)?;
+    println!(rt; "reached={}", steps.reached.steps)?;
+    println!(rt; "net={}", steps.net.units)?;
+    let Some(distances) = steps.answer else {
+        return println!(rt; "weak");
+    };
+    println!(rt; "control={}", distances.control.millimetres)?;
+    println!(rt; "warning={}", distances.warning.millimetres)?;
+    println!(rt; "nominal={}", distances.nominal.millimetres)
 }

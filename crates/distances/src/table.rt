@@ -1,4 +1,4 @@
-use braking::{Answer, BrakingModel, Question};
+use braking::{BrakingModel, Question};
 use models::SheetModel;
 use std::io;
 use units::{Grade, Speed};
@@ -14,23 +14,14 @@ fn show_row(rt: &HostRuntime, model: &SheetModel, speed: u64, grade: i64) -> io:
     };
     print!(rt; "{speed} {grade} ")?;
     match model.answer(question) {
-        Err(refusal) => {
-            let number = refusal.number();
-            println!(rt; "answer={number}")
-        }
-        Ok(answer) => show_answer(rt, answer),
-    }
-}
-
-fn show_answer(rt: &HostRuntime, answer: Answer) -> io::Result<()> {
-    match answer {
-        Answer::Weak => println!(rt; "weak - -"),
-        Answer::Strong(distances) => {
-            let control = distances.control.millimetres;
-            let warning = distances.warning.millimetres;
-            let nominal = distances.nominal.millimetres;
-            println!(rt; "{control} {warning} {nominal}")
-        }
+        Err(refusal) => println!(rt; "answer={}", refusal.number()),
+        Ok(None) => println!(rt; "weak - -"),
+        Ok(Some(distances)) => println!(rt;
+            "{} {} {}",
+            distances.control.millimetres,
+            distances.warning.millimetres,
+            distances.nominal.millimetres
+        ),
     }
 }
 
@@ -38,7 +29,7 @@ fn show_answer(rt: &HostRuntime, answer: Answer) -> io::Result<()> {
 pub(crate) fn show_table(rt: &HostRuntime, model: &SheetModel) -> io::Result<()> {
     println!(rt; "speed grade control warning nominal")?;
     let steps = model.top_speed().speed.tenths / 100;
-    for step in 1..steps + 1 {
+    for step in 1..=steps {
         for grade in &GRADES {
             show_row(rt, model, step * 100, *grade)?;
         }

@@ -3,7 +3,7 @@
 // Many questions to several maker's brakes, and numbers that make no brake, held to an independent calculation.
 mod cases;
 
-use braking::{Answer, BrakingModel, Question};
+use braking::{BrakingModel, Question};
 use cases::{BRAKES, QUESTIONS, SHEET};
 use constant_brake::{BrakeData, ConstantBrake};
 use sheet::{Admitted, Draft, Rejected};
@@ -39,10 +39,7 @@ fn show_brake(rt: &HostRuntime, stated: BrakeData, sheet: &Admitted) -> io::Resu
     let top = stated.top.tenths;
     println!(rt; "deceleration={deceleration} reaction={reaction} top={top}")?;
     match ConstantBrake::new(stated, sheet) {
-        Err(refusal) => {
-            let number = refusal.number();
-            println!(rt; "answer={number}")
-        }
+        Err(refusal) => println!(rt; "answer={}", refusal.number()),
         Ok(brake) => show_questions(rt, &brake),
     }
 }
@@ -65,22 +62,8 @@ fn show_questions(rt: &HostRuntime, brake: &ConstantBrake) -> io::Result<()> {
 // The three distances, or `weak`, or the number of the refusal.
 fn show_answer(rt: &HostRuntime, brake: &ConstantBrake, question: Question) -> io::Result<()> {
     match brake.answer(question) {
-        Err(refusal) => {
-            let number = refusal.number();
-            println!(rt; "answer={number}")
-        }
-        Ok(answer) => show_verdict(rt, answer),
-    }
-}
-
-fn show_verdict(rt: &HostRuntime, answer: Answer) -> io::Result<()> {
-    match answer {
-        Answer::Weak => println!(rt; "weak"),
-        Answer::Strong(distances) => {
-            let control = distances.control.millimetres;
-            let warning = distances.warning.millimetres;
-            let nominal = distances.nominal.millimetres;
-            println!(rt; "control={control} warning={warning} nominal={nominal}")
-        }
+        Err(refusal) => println!(rt; "answer={}", refusal.number()),
+        Ok(None) => println!(rt; "weak"),
+        Ok(Some(distances)) => println!(rt; "{distances}"),
     }
 }

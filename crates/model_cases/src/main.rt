@@ -3,13 +3,12 @@
 // Every step of many questions on several sheets, held to an independent calculation.
 mod cases;
 
-use braking::{Answer, Question};
+use braking::Question;
 use cases::{GRADES, SHEETS, SPEEDS, TARGETS};
 use figures::sheet_a;
 use models::SheetModel;
 use sheet::{Draft, Rejected, Values};
 use std::io;
-use stopping::Steps;
 use units::{Grade, Speed};
 
 // The model of a sheet that is admitted.
@@ -28,44 +27,28 @@ fn model_of(values: Values) -> Option<SheetModel> {
     }
 }
 
-fn show_answer(rt: &HostRuntime, answer: Answer) -> io::Result<()> {
-    match answer {
-        Answer::Weak => println!(rt; " weak"),
-        Answer::Strong(distances) => {
-            let control = distances.control.millimetres;
-            let warning = distances.warning.millimetres;
-            let nominal = distances.nominal.millimetres;
-            println!(rt; " {control} {warning} {nominal}")
-        }
-    }
-}
-
 // One question in a line: its refusal, or its steps.
 fn show(rt: &HostRuntime, model: &SheetModel, number: usize, question: Question) -> io::Result<()> {
     let speed = question.speed.tenths;
     let target = question.target.tenths;
     let grade = question.grade.thousandths;
     print!(rt; "{number} {speed} {target} {grade}")?;
-    match model.steps(question) {
-        Err(refusal) => {
-            let refused = refusal.number();
-            println!(rt; " answer={refused}")
-        }
-        Ok(steps) => {
-            let Steps {
-                reaction,
-                slope,
-                reached,
-                net,
-                answer,
-            } = steps;
-            let ticks = reaction.ticks;
-            let slope = slope.units;
-            let reached = reached.steps;
-            let net = net.units;
-            print!(rt; " {ticks} {slope} {reached} {net}")?;
-            show_answer(rt, answer)
-        }
+    let steps = match model.steps(question) {
+        Err(refusal) => return println!(rt; " answer={}", refusal.number()),
+        Ok(steps) => steps,
+    };
+    print!(rt;
+        " {} {} {} {}",
+        steps.reaction.ticks, steps.slope.units, steps.reached.steps, steps.net.units
+    )?;
+    match steps.answer {
+        None => println!(rt; " weak"),
+        Some(distances) => println!(rt;
+            " {} {} {}",
+            distances.control.millimetres,
+            distances.warning.millimetres,
+            distances.nominal.millimetres
+        ),
     }
 }
 

@@ -1,5 +1,5 @@
 -- A factor of the code scales as its fraction does.
-use Rattle.std.proofs.Common.{◌≡◌, ℕ, ◌*◌, ◌/◌, ◌≤◌, pos, ap, ◌∙◌, mul-one, div-one, arith, w64, to_z}
+use Rattle.std.proofs.Common.{◌≡◌, ℕ, ◌*◌, ◌/◌, ◌≤◌, ℤ, pos, ◌≤ℤ◌, ap, ◌∙◌, mul-one, div-one, arith, w64, to_z}
 use Rattle.std.proofs.lemmas.Int.{ints}
 use Rattle.units.specs.Fractions.{Fraction, whole}
 use Rattle.stopping.specs.Factors.{scaled}
@@ -24,3 +24,6 @@ two_of_five x f g =
 
 pub small_cast : (n m : ℕ) → n ≤ 1000000000 → n ≡ m → to_z w64 n ≡ pos m
 small_cast n m h e = omega (arith, ints)
+
+pub not_negative : (z : ℤ) (n : ℕ) → z ≡ pos n → pos 0 ≤ℤ z
+not_negative z n e = omega (arith, ints)

@@ -1,4 +1,3 @@
 mod Tables
 mod FadingSpeeds
 mod Chains
-mod Showing

@@ -1,5 +1,5 @@
 -- The formulas of the two models, over the values of a sheet. V is the speed and V0 the target speed, in tenths of km/h.
-use Rattle.std.specs.Prelude.{ℕ, ◌+◌, ◌-◌, ◌*◌, max, Bool, cond, ◌&&◌, List, [], ◌∷◌, nat_lt}
+use Rattle.std.specs.Prelude.{ℕ, ◌+◌, ◌-◌, ◌*◌, max, Bool, if◌then◌else◌, ◌&&◌, List, [], ◌∷◌, nat_lt}
 use Rattle.units.specs.Fractions.{Fraction, whole, ratio}
 use Rattle.sheet.specs.declared.words.Model.{Model}
 use Rattle.sheet.specs.declared.words.Model.TheVariants.{Scmt, Etcs}
@@ -58,7 +58,7 @@ near_width Goods Goods = 150
 
 -- Dt of scmt, in hundredths: less than 100 only near a target speed above 0.
 abbrev pub scmt_share : (train brake : Service) (V V0 : ℕ) → ℕ
-scmt_share train brake V V0 = cond (nat_lt 0 V0 && nat_lt V (V0 + near_width train brake)) (near_share train brake) 100
+scmt_share train brake V V0 = if nat_lt 0 V0 && nat_lt V (V0 + near_width train brake) then near_share train brake else 100
 
 -- Dt, in hundredths.
 abbrev pub pipe_share : Model → Values → (V V0 : ℕ) → ℕ
@@ -85,7 +85,7 @@ start lambda = 100 * (685 * lambda + 9400)
 
 -- A factor of scmt where the test holds, else 1.
 abbrev pub scmt_where : Model → Bool → Fraction → Fraction
-scmt_where Scmt b f = cond b f (whole 1)
+scmt_where Scmt b f = if b then f else whole 1
 scmt_where Etcs b f = whole 1
 
 abbrev pub fading : (lambda V : ℕ) → Fraction

@@ -14,10 +14,9 @@ use Rattle.sheet.specs.declared.words.Regime.TheVariants.{Operation, Trial}
 use Rattle.sheet.specs.declared.values.Values.{Values}
 use Rattle.stopping.specs.Factors.{Bounded, none, more, product, rounded_down, lost}
 use Rattle.stopping.specs.Stops.{Limited, Near}
-use Rattle.stopping.specs.Working.{Lawful as LawfulStop}
 use Rattle.stopping.proofs.Gradients.{slope_not_below, slope_not_above}
 use Rattle.stopping.proofs.Losses.{near}
-use Rattle.stopping.proofs.Margin.{lawful}
+use Rattle.stopping.proofs.Lawfully.{lawful_by}
 use Rattle.models.specs.Formulas.{top, scmt_where, fading, fast, start, factors}
 use Rattle.models.specs.Meanings.{stop_for, meaning_of}
 use Rattle.models.specs.Vl.{vl}
@@ -65,13 +64,5 @@ module _ (m : Model) (v : Values) (fine : admissible v ≡ true) where
     ti_brief = (limits v fine).ti;
   }
 
-  stop_lawful : (q : Question) → Asked (top m v.regime) q → Binds q → LawfulStop (stop_for m v q)
-  stop_lawful q asked binds = lawful (stop_for m v q) (stop_limited q asked binds) (braking_near q.speed q.target (le_trans asked.slow (top_bounded m v.regime)))
-
   pub model_lawful : Lawful (meaning_of m v)
-  model_lawful = record {
-    top_bounded = top_bounded m v.regime;
-    weak_below = λ q asked binds. (stop_lawful q asked binds).weak_below;
-    strong_above = λ q asked binds. (stop_lawful q asked binds).strong_above;
-    sound = λ q asked binds. (stop_lawful q asked binds).sound;
-  }
+  model_lawful = lawful_by (top m v.regime) (stop_for m v) (top_bounded m v.regime) stop_limited (λ q asked binds. braking_near q.speed q.target (le_trans asked.slow (top_bounded m v.regime)))

@@ -5,7 +5,8 @@ use Rattle.sheet.specs.declared.words.Model.{Model}
 use Rattle.sheet.specs.declared.values.Values.{Values}
 use Rattle.stopping.specs.Factors.{product, rounded_down}
 use Rattle.stopping.specs.Slopes.{slope_of}
-use Rattle.stopping.specs.Stops.{Stop, net_exact, verdict}
+use Rattle.stopping.specs.Meanings.{meaning_by}
+use Rattle.stopping.specs.Stops.{Stop}
 use Rattle.models.specs.Formulas.{top, reaction_time, start, factors}
 
 -- d is the exact product over the factors and D the product rounded down after each, both with the slope.
@@ -22,8 +23,4 @@ stop_for m v q = record {
 }
 
 abbrev pub meaning_of : Model → Values → Meaning
-meaning_of m v = record {
-  top = top m v.regime;
-  deceleration = λ q. net_exact (stop_for m v q);
-  verdict = λ q. verdict (stop_for m v q);
-}
+meaning_of m v = meaning_by (top m v.regime) (stop_for m v)

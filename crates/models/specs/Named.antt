@@ -10,5 +10,5 @@ name_of (AsScmt m) = Scmt
 name_of (AsEtcs m) = Etcs
 
 abbrev pub values_of : SheetModel → Values
-values_of (AsScmt m) = m.values
-values_of (AsEtcs m) = m.values
+values_of (AsScmt m) = m.sheet.values
+values_of (AsEtcs m) = m.sheet.values

@@ -6,6 +6,7 @@ ghost use Rattle.models.specs.Scaling.{Is};
 use crate::factor::Factor;
 use crate::numbers;
 use braking::Approach;
+use units::Speed;
 
 const ONE: Factor = Factor { over: 1, under: 1 };
 
@@ -19,13 +20,13 @@ pub(crate) fn starting(lambda: u16) -> u64
 }
 
 // The brake fades above VL.
-pub(crate) fn fading(vl: u64, speed: u64) -> Factor
-    requires { speed ≤ 4000 }
-    ensures { Is (if nat_lt vl speed then ratio (100000 - 21 * (speed - vl)) 100000 else whole 1) result }
+pub(crate) fn fading(vl: Speed, approach: Approach) -> Factor
+    ensures { Is (if nat_lt vl.tenths approach.speed.tenths then ratio (100000 - 21 * (approach.speed.tenths - vl.tenths)) 100000 else whole 1) result }
 {
-    if speed > vl {
+    let speed = approach.speed.tenths;
+    if speed > vl.tenths {
         Factor {
-            over: 100_000 - numbers::FADING * (speed - vl),
+            over: 100_000 - numbers::FADING * (speed - vl.tenths),
             under: 100_000,
         }
     } else {
@@ -45,10 +46,10 @@ pub(crate) fn counted(kr: u16) -> Factor
 }
 
 // At high speed.
-pub(crate) fn faster(speed: u64) -> Factor
-    requires { speed ≤ 4000 }
-    ensures { Is (if nat_lt 1500 speed then fast speed else whole 1) result }
+pub(crate) fn faster(approach: Approach) -> Factor
+    ensures { Is (if nat_lt 1500 approach.speed.tenths then fast approach.speed.tenths else whole 1) result }
 {
+    let speed = approach.speed.tenths;
     if speed > numbers::FAST {
         Factor {
             over: 8_500 + speed,
@@ -60,10 +61,10 @@ pub(crate) fn faster(speed: u64) -> Factor
 }
 
 // At very high speed.
-pub(crate) fn fastest(speed: u64) -> Factor
-    ensures { Is (if nat_lt 2600 speed then ratio 80 100 else whole 1) result }
+pub(crate) fn fastest(approach: Approach) -> Factor
+    ensures { Is (if nat_lt 2600 approach.speed.tenths then ratio 80 100 else whole 1) result }
 {
-    if speed > numbers::VERY_FAST {
+    if approach.speed.tenths > numbers::VERY_FAST {
         Factor {
             over: numbers::VERY_FAST_SHARE,
             under: 100,

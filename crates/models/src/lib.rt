@@ -2,17 +2,20 @@
 
 mod deceleration;
 mod etcs;
-mod etcs_answers;
 mod factor;
+mod fit_values;
 mod numbers;
-mod reaction;
-mod scaling;
+mod pipe;
+mod pipe_time;
+mod railway;
+mod railway_answers;
+mod rules;
 mod scmt;
-mod scmt_answers;
+mod shares;
 mod sheet_answers;
 mod sheet_model;
-mod working;
 
 pub use etcs::Etcs;
+pub use railway::Railway;
 pub use scmt::Scmt;
 pub use sheet_model::SheetModel;

@@ -1,11 +1,97 @@
-ghost use Rattle.std.specs.Prelude.{◌≡◌, true};
-ghost use Rattle.sheet.specs.Ranges.{admissible};
+ghost use Rattle.std.specs.Prelude.{◌≡◌, ◌<◌, slice_index};
+ghost use Rattle.sheet.specs.declared.words.Model.TheVariants.{Scmt as ScmtName};
+ghost use Rattle.models.specs.Vl.{Greatest, entries, vl};
 
-use sheet::Values;
+use crate::deceleration::{counted, fading, faster, fastest, starting, targeting};
+use crate::fit_values::FitValues;
+use crate::numbers;
+use crate::railway::Railway;
+use crate::rules::Rules;
+use crate::shares::scmt_share;
+use braking::{Approach, TopSpeed};
+use sheet::{Regime, Values};
+use units::{Deceleration, Speed};
+
+// The rules of the Italian SCMT.
+#[derive(Clone, Copy, Debug, PartialEq, Eq)]
+pub struct ScmtRules;
 
 // The Italian SCMT model, with the values of an admitted sheet.
-#[derive(Clone, Copy)]
-pub struct Scmt {
-    pub(crate) values: Values,
-    ghost fine: { admissible values ≡ true },
+pub type Scmt = Railway<ScmtRules>;
+
+// VL at lambda 45, 50 and so on up to 160.
+const FADING_SPEEDS: [u16; 24] = [
+    873, 914, 954, 991, 1027, 1061, 1094, 1126, 1157, 1186, 1215, 1243, 1270, 1297, 1323, 1348,
+    1372, 1396, 1420, 1443, 1466, 1488, 1510, 1531,
+];
+
+// VL at a place of the table.
+fn entry_at(place: u16) -> u16
+    requires { place < 24 }
+    ensures { result ≡ slice_index entries place }
+{
+    FADING_SPEEDS[usize::from(place)]
+}
+
+impl FitValues {
+    // VL by lambda.
+    fn fading_speed(&self) -> Speed
+        ensures value { result.tenths ≡ vl self.now.values.lambda }
+        ensures rule { Greatest self.now.values.lambda result.tenths }
+    {
+        let place = (self.values.lambda - 45) / 5;
+        Speed {
+            tenths: u64::from(entry_at(place)),
+        }
+    }
+}
+
+impl Railway<ScmtRules> {
+    // VL, the speed above which the brake fades.
+    pub fn fading_speed(&self) -> Speed
+        ensures value { result.tenths ≡ vl self.now.sheet.values.lambda }
+        ensures rule { Greatest self.now.sheet.values.lambda result.tenths }
+    {
+        self.sheet.fading_speed()
+    }
+}
+
+impl Rules for ScmtRules {
+    ghost name = { ScmtName };
+
+    fn top_speed(regime: Regime) -> TopSpeed {
+        let tenths = match regime {
+            Regime::Operation => 2_600,
+            Regime::Trial => 3_100,
+        };
+        TopSpeed {
+            speed: Speed { tenths },
+        }
+    }
+
+    // Never, whatever the sheet has.
+    fn counted_ep(_values: &Values) -> u16 {
+        numbers::SCMT_EP
+    }
+
+    fn pipe_share(values: &Values, approach: Approach) -> u64 {
+        scmt_share(values.train, values.brake, approach)
+    }
+
+    fn delay() -> u64 {
+        numbers::SCMT_DELAY
+    }
+
+    // All five factors.
+    fn braking(sheet: &FitValues, approach: Approach) -> Deceleration {
+        let starting = starting(sheet.values.lambda);
+        let faded = fading(sheet.fading_speed(), approach).scale(starting);
+        let shared = counted(sheet.values.kr).scale(faded);
+        let fast = faster(approach).scale(shared);
+        let very_fast = fastest(approach).scale(fast);
+        let targeted = targeting(approach).scale(very_fast);
+        Deceleration {
+            units: targeted as i64,
+        }
+    }
 }

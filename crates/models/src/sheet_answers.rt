@@ -10,7 +10,7 @@ ghost use Rattle.models.specs.Lawfulness.{model_lawful};
 use crate::etcs::Etcs;
 use crate::scmt::Scmt;
 use crate::sheet_model::SheetModel;
-use braking::{Answer, BrakingModel, Question, Refusal, TopSpeed};
+use braking::{BrakingModel, Distances, Question, Refusal, TopSpeed};
 use sheet::{Admitted, Model};
 use stopping::Steps;
 
@@ -41,8 +41,8 @@ impl BrakingModel for SheetModel {
     ghost meaning = { λ m. meaning_of (name_of m) (values_of m) };
 
     ghost lawful = { elim [
-      | AsScmt m ↦ model_lawful Scmt m.values m.fine
-      | AsEtcs m ↦ model_lawful Etcs m.values m.fine
+      | AsScmt m ↦ model_lawful Scmt m.sheet.values m.sheet.fine
+      | AsEtcs m ↦ model_lawful Etcs m.sheet.values m.sheet.fine
     ] };
 
     fn top_speed(&self) -> TopSpeed {
@@ -52,7 +52,7 @@ impl BrakingModel for SheetModel {
         }
     }
 
-    fn answer(&self, question: Question) -> Result<Answer, Refusal> {
+    fn answer(&self, question: Question) -> Result<Option<Distances>, Refusal> {
         match self {
             SheetModel::Scmt(model) => model.answer(question),
             SheetModel::Etcs(model) => model.answer(question),

@@ -2,7 +2,7 @@ use crate::etcs::Etcs;
 use crate::scmt::Scmt;
 
 // The model that a sheet names.
-#[derive(Clone, Copy)]
+#[derive(Clone, Copy, Debug, PartialEq, Eq)]
 pub enum SheetModel {
     Scmt(Scmt),
     Etcs(Etcs),

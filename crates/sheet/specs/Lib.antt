@@ -1,3 +1,4 @@
 pub mod Ranges
 pub mod Refusals
 pub mod Admitting
+pub mod Values

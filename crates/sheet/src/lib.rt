@@ -2,11 +2,11 @@
 
 mod admitted;
 mod admitting;
+mod changing;
 mod draft;
 mod number_key;
 mod ranges;
 mod refusal;
-mod refusal_number;
 mod values;
 mod words;
 

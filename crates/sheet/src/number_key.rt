@@ -1,5 +1,5 @@
 // The keys of a train sheet whose values are numbers.
-#[derive(Clone, Copy)]
+#[derive(Clone, Copy, Debug, PartialEq, Eq)]
 pub enum NumberKey {
     Ep,
     Lambda,

@@ -40,10 +40,6 @@ impl Values {
     pub fn brake_allowed(&self) -> bool
         ensures { result ≡ brake_allowed self.now.train self.now.brake }
     {
-        match (self.train, self.brake) {
-            (Service::Passenger, Service::Goods) => false,
-            (Service::Passenger, Service::Passenger) => true,
-            (Service::Goods, _) => true,
-        }
+        self.train == Service::Goods || self.brake == Service::Passenger
     }
 }

@@ -1,7 +1,7 @@
 use crate::words::{LengthChoice, Model, Regime, Service};
 
 // The twelve values of a train sheet, in range or not.
-#[derive(Clone, Copy)]
+#[derive(Clone, Copy, Debug, PartialEq, Eq)]
 pub struct Values {
     pub model: Model,
     pub regime: Regime,

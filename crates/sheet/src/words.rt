@@ -1,7 +1,7 @@
 // The values of a train sheet that are words. Behind each stands the word of the sheet's text.
 
 // The braking model that a sheet names.
-#[derive(Clone, Copy)]
+#[derive(Clone, Copy, Debug, PartialEq, Eq)]
 pub enum Model {
     // scmt
     Scmt,
@@ -10,7 +10,7 @@ pub enum Model {
 }
 
 // How the line is run, on which the top speed depends.
-#[derive(Clone, Copy)]
+#[derive(Clone, Copy, Debug, PartialEq, Eq)]
 pub enum Regime {
     // E
     Operation,
@@ -19,7 +19,7 @@ pub enum Regime {
 }
 
 // What a train is made up as, and what its brake is set to.
-#[derive(Clone, Copy)]
+#[derive(Clone, Copy, Debug, PartialEq, Eq)]
 pub enum Service {
     // V
     Passenger,
@@ -28,7 +28,7 @@ pub enum Service {
 }
 
 // Which length the time of the brake pipe is worked out from (lfren).
-#[derive(Clone, Copy)]
+#[derive(Clone, Copy, Debug, PartialEq, Eq)]
 pub enum LengthChoice {
     // LD, a fixed length for the brake setting
     Fixed,

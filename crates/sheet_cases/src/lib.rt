@@ -35,25 +35,6 @@ mod tests {
         }
     }
 
-    // A fine sheet with one value changed.
-    fn with(key: NumberKey, value: u16) -> Values {
-        match key {
-            NumberKey::Ep => Values { ep: value, ..FINE },
-            NumberKey::Lambda => Values {
-                lambda: value,
-                ..FINE
-            },
-            NumberKey::Length => Values {
-                length: value,
-                ..FINE
-            },
-            NumberKey::Kr => Values { kr: value, ..FINE },
-            NumberKey::Tw => Values { tw: value, ..FINE },
-            NumberKey::Ti => Values { ti: value, ..FINE },
-            NumberKey::Eps => Values { eps: value, ..FINE },
-        }
-    }
-
     const AT_THE_LIMITS: [(NumberKey, u16); 13] = [
         (NumberKey::Ep, 1),
         (NumberKey::Lambda, 45),
@@ -91,7 +72,7 @@ mod tests {
     #[test]
     fn values_at_their_limits_are_admitted(rt: HostRuntime) {
         for (key, value) in &AT_THE_LIMITS {
-            let values = with(*key, *value);
+            let values = FINE.with(*key, *value);
             assert_eq!(rt; answer(values), (0, values.eps));
         }
     }
@@ -99,7 +80,7 @@ mod tests {
     #[test]
     fn values_beyond_their_limits_are_refused(rt: HostRuntime) {
         for (key, value) in &BEYOND {
-            let values = with(*key, *value);
+            let values = FINE.with(*key, *value);
             assert_eq!(rt; answer(values), (4, values.eps));
         }
     }

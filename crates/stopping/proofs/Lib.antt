@@ -4,3 +4,4 @@ mod Reaching
 mod Limits
 pub mod Gradients
 pub mod Margin
+pub mod Lawfully

@@ -2,3 +2,5 @@ pub mod Factors
 pub mod Slopes
 pub mod Stops
 pub mod Working
+pub mod Shown
+pub mod Meanings

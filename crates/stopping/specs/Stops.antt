@@ -1,5 +1,5 @@
 -- How a stop is worked out: the formulas exactly, as fractions, and the whole numbers that are computed.
-use Rattle.std.specs.Prelude.{ℕ, ◌+◌, ◌-◌, ◌*◌, ◌≤◌, max, cond, ℤ, pos, negsuc, ◌+ℤ◌, ◌-ℤ◌, ◌*ℤ◌, ◌≤ℤ◌, int_lt}
+use Rattle.std.specs.Prelude.{ℕ, ◌+◌, ◌-◌, ◌*◌, ◌≤◌, max, if◌then◌else◌, ℤ, pos, negsuc, ◌+ℤ◌, ◌-ℤ◌, ◌*ℤ◌, ◌≤ℤ◌, int_lt}
 use Rattle.std.proofs.Common.{lit<}
 use Rattle.units.specs.Fractions.{Fraction, SignedFraction, whole, ratio, ◌≼◌, ◌≺◌, ◌⊕◌, ◌⊖◌, ◌⊗◌, ◌⊘◌}
 use Rattle.units.specs.Rounding.{ceiling}
@@ -98,7 +98,7 @@ computed_distances s = record {
 
 -- Weak where D is under 500,000 units, a twentieth of a m/s².
 unfoldable pub verdict : Stop → Verdict
-verdict s = cond (int_lt (net s) (pos 500000)) weak (strong (exact_distances s) (computed_distances s))
+verdict s = if int_lt (net s) (pos 500000) then weak else strong (exact_distances s) (computed_distances s)
 
 -- The limits within which the computed distances are close to the exact ones.
 pub record Limited (s : Stop) : Type 0 where

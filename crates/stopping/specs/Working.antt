@@ -13,7 +13,7 @@ abbrev pub stop_of : StopStruct → Fraction → Stop
 stop_of s exact = record {
   speed = s.speed.tenths;
   target = s.target.tenths;
-  reaction = s.reaction.ticks;
+  reaction = s.reaction.time.ticks;
   slope = s.slope.units;
   braking = exact;
   rounded = natural s.braking.units;

@@ -1,8 +1,8 @@
-use braking::Answer;
+use braking::Distances;
 use units::{Deceleration, FineSpeed, Time};
 
 // The steps from a question to its answer, in order.
-#[derive(Clone, Copy)]
+#[derive(Clone, Copy, Debug, PartialEq, Eq)]
 pub struct Steps {
     pub reaction: Time,
     pub slope: Deceleration,
@@ -10,5 +10,6 @@ pub struct Steps {
     pub reached: FineSpeed,
     // what brake and slope do together, rounded down
     pub net: Deceleration,
-    pub answer: Answer,
+    // the three distances, none where the brake is too weak
+    pub answer: Option<Distances>,
 }

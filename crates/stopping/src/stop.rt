@@ -1,14 +1,15 @@
 ghost use Rattle.std.specs.Prelude.{◌≤◌, pos, negsuc, ◌≤ℤ◌};
 
-use units::{Deceleration, Speed, Time};
+use crate::reaction_time::ReactionTime;
+use units::{Deceleration, Speed};
 
 // All that a stop is worked out from, within the limits for which the margin of the distances is proved.
-#[derive(Clone, Copy)]
+#[derive(Clone, Copy, Debug, PartialEq, Eq)]
 pub struct Stop {
     pub speed: Speed,
     pub target: Speed,
     // how long the brake takes to act
-    pub reaction: Time,
+    pub reaction: ReactionTime,
     // what the slope does, below zero downhill
     pub slope: Deceleration,
     // what the brake does by itself, rounded down
@@ -19,7 +20,6 @@ pub struct Stop {
     pub ti: u16,
     ghost slow: { speed.tenths ≤ 4000 },
     ghost lower: { target.tenths ≤ speed.tenths },
-    ghost brief: { reaction.ticks ≤ 6000000000 },
     ghost not_steeper_down: { negsuc 4199999 ≤ℤ slope.units },
     ghost not_steeper_up: { slope.units ≤ℤ pos 4200000 },
     ghost braking_on: { pos 0 ≤ℤ braking.units },

@@ -5,10 +5,11 @@ ghost use Rattle.stopping.specs.Factors.{FactorsLose};
 ghost use Rattle.stopping.specs.Stops.{Near, reached_up, computed_control, computed_lead, natural};
 ghost use Rattle.stopping.specs.Working.{stop_of, Worked, Lawful, Uncut};
 
+use crate::reached::Reached;
 use crate::steps::Steps;
 use crate::stop::Stop;
-use braking::{Answer, Distances};
-use units::{Deceleration, Distance, Divisor, FineSpeed, Speed, Time, quotient_floor, quotient_up};
+use braking::Distances;
+use units::{Deceleration, Distance, Divisor, FineSpeed, Speed, quotient_floor, quotient_up};
 
 // A net deceleration below this many units is weak.
 const LEAST_NET: i64 = 500_000;
@@ -30,20 +31,6 @@ fn after_loss(speed: Speed, loss: i64) -> i64
     1000 * (speed.tenths as i64) - loss
 }
 
-// The distance run until the brake acts, rounded up.
-fn reaction_term(reaction: Time, reached: FineSpeed) -> u64
-    requires brief { reaction.ticks ≤ 6000000000 }
-    requires bounded { reached.steps ≤ 5000000 }
-    ensures { result ≡ ceiling (reaction.ticks * reached.steps) 3600000000 }
-{
-    quotient_up(
-        reaction.ticks * reached.steps,
-        Divisor {
-            value: 3_600_000_000,
-        },
-    )
-}
-
 // The distance from braking, rounded up, by what the square of the speed has to fall.
 fn braking_term(fall: u64, net: u64) -> u64
     requires bounded { fall ≤ 25000000000000 }
@@ -52,15 +39,6 @@ fn braking_term(fall: u64, net: u64) -> u64
     ensures { result ≡ ceiling (625 * fall) (162 * net) }
 {
     quotient_up(625 * fall, Divisor { value: 162 * net })
-}
-
-// The distance run in a time of tenths of a second, rounded up.
-fn lead_term(time: u16, reached: FineSpeed) -> u64
-    requires brief { time ≤ 100 }
-    requires bounded { reached.steps ≤ 5000000 }
-    ensures { result ≡ computed_lead time reached.steps }
-{
-    quotient_up(u64::from(time) * reached.steps, Divisor { value: 360 })
 }
 
 impl Stop {
@@ -75,14 +53,14 @@ impl Stop {
         let reached = self.speed_reached();
         let net = self.net();
         let answer = if is_weak(net) {
-            Answer::Weak
+            None
         } else {
-            Answer::Strong(self.distances(reached, net.units as u64))
+            Some(self.distances(reached, net.units as u64))
         };
         Steps {
-            reaction: self.reaction,
+            reaction: self.reaction.time,
             slope: self.slope,
-            reached,
+            reached: reached.speed,
             net,
             answer,
         }
@@ -98,41 +76,41 @@ impl Stop {
     }
 
     // The speed when the brake acts, rounded up: downhill the train has gained speed until then, and the gain is rounded up too.
-    fn speed_reached(&self) -> FineSpeed
-        ensures value { result.steps ≡ reached_up (stop_of self.now (whole 0)) }
-        ensures bounded { result.steps ≤ 5000000 }
-        ensures reaches { 1000 * self.now.target.tenths ≤ result.steps }
+    fn speed_reached(&self) -> Reached
+        ensures value { result.speed.steps ≡ reached_up (stop_of self.now (whole 0)) }
+        ensures reaches { 1000 * self.now.target.tenths ≤ result.speed.steps }
     {
         let loss = quotient_floor(
-            9 * (self.reaction.ticks as i64) * self.slope.units,
+            9 * (self.reaction.time.ticks as i64) * self.slope.units,
             Divisor {
                 value: 250_000_000_000,
             },
         );
         let reached = after_loss(self.speed, loss);
         let target = 1000 * (self.target.tenths as i64);
-        FineSpeed {
-            steps: reached.max(target) as u64,
+        Reached {
+            speed: FineSpeed {
+                steps: reached.max(target) as u64,
+            },
         }
     }
 
     // The three distances from the speed reached at a net deceleration that is not weak, each term rounded up.
-    fn distances(&self, reached: FineSpeed, net: u64) -> Distances
-        requires bounded { reached.steps ≤ 5000000 }
-        requires reaches { 1000 * self.now.target.tenths ≤ reached.steps }
+    fn distances(&self, reached: Reached, net: u64) -> Distances
+        requires reaches { 1000 * self.now.target.tenths ≤ reached.speed.steps }
         requires strong { 500000 ≤ net }
         requires small { net ≤ 2000000000 }
-        ensures control { result.control.millimetres ≡ computed_control self.now.reaction.ticks reached.steps (1000 * self.now.target.tenths) net }
-        ensures warning { result.warning.millimetres ≡ result.control.millimetres + computed_lead self.now.tw reached.steps }
-        ensures nominal { result.nominal.millimetres ≡ result.warning.millimetres + computed_lead self.now.ti reached.steps }
+        ensures control { result.control.millimetres ≡ computed_control self.now.reaction.time.ticks reached.speed.steps (1000 * self.now.target.tenths) net }
+        ensures warning { result.warning.millimetres ≡ result.control.millimetres + computed_lead self.now.tw reached.speed.steps }
+        ensures nominal { result.nominal.millimetres ≡ result.warning.millimetres + computed_lead self.now.ti reached.speed.steps }
     {
-        let steps = reached.steps;
+        let steps = reached.speed.steps;
         let target = 1000 * self.target.tenths;
-        let reaction = reaction_term(self.reaction, reached);
+        let reaction = reached.reaction_term(self.reaction);
         let braking = braking_term(steps * steps - target * target, net);
         let control = reaction + braking;
-        let warning = control + lead_term(self.tw, reached);
-        let nominal = warning + lead_term(self.ti, reached);
+        let warning = control + reached.lead_term(self.tw);
+        let nominal = warning + reached.lead_term(self.ti);
         Distances {
             control: Distance {
                 millimetres: control,

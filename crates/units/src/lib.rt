@@ -1,9 +1,11 @@
 #![tactic(auto)]
 
 mod divisor;
+mod limits;
 mod quantities;
 mod rounding;
 
 pub use divisor::Divisor;
+pub use limits::{FASTEST, FURTHEST, STEEPEST_FALL, STEEPEST_RISE};
 pub use quantities::{Deceleration, Distance, FineSpeed, Grade, Speed, Time};
 pub use rounding::{quotient_down, quotient_floor, quotient_up};

@@ -13,38 +13,6 @@ braking_small B v m k = omega (arith, ceiling_at_most (625 * (B * B - v * v)) m,
 lead_small : (t B : ℕ) → t ≤ 100 → B ≤ 5000000 → ceiling (t * B) 360 ≤ 500000001
 lead_small t B h k = omega (arith, ceiling_at_most (t * B) 360, mul-le-mul h k)
 
-pub overflow_sub-steps : goal.overflow_sub-steps
-overflow_sub-steps c = mul-le-mul c.requires.reaches c.requires.reaches
-
-pub braking_term-braking-requires : goal.braking_term-braking-requires
-braking_term-braking-requires c = record {
-  bounded = omega (arith, mul-le-mul c.requires.bounded c.requires.bounded);
-  strong = c.requires.strong;
-  small = c.requires.small;
-}
-
-pub overflow_add-control : goal.overflow_add-control
-overflow_add-control c =
-    omega (
-      arith,
-      c.reaction_term-reaction.ensures,
-      c.braking_term-braking.ensures,
-      reaction_small c.args.self.now.reaction.ticks c.args.reached.steps c.args.self.now.brief c.requires.bounded,
-      braking_small c.args.reached.steps (1000 * c.args.self.now.target.tenths) (162 * c.args.net) c.requires.bounded,
-    )
-
-pub overflow_add-warning : goal.overflow_add-warning
-overflow_add-warning c =
-    omega (
-      arith,
-      c.reaction_term-reaction.ensures,
-      c.braking_term-braking.ensures,
-      c.lead_term.ensures,
-      reaction_small c.args.self.now.reaction.ticks c.args.reached.steps c.args.self.now.brief c.requires.bounded,
-      braking_small c.args.reached.steps (1000 * c.args.self.now.target.tenths) (162 * c.args.net) c.requires.bounded,
-      lead_small c.args.self.now.tw c.args.reached.steps c.args.self.now.tw_brief c.requires.bounded,
-    )
-
 pub overflow_add-nominal : goal.overflow_add-nominal
 overflow_add-nominal c =
     omega (
@@ -53,8 +21,8 @@ overflow_add-nominal c =
       c.braking_term-braking.ensures,
       c.lead_term.ensures,
       c.lead_term-2.ensures,
-      reaction_small c.args.self.now.reaction.ticks c.args.reached.steps c.args.self.now.brief c.requires.bounded,
-      braking_small c.args.reached.steps (1000 * c.args.self.now.target.tenths) (162 * c.args.net) c.requires.bounded,
-      lead_small c.args.self.now.tw c.args.reached.steps c.args.self.now.tw_brief c.requires.bounded,
-      lead_small c.args.self.now.ti c.args.reached.steps c.args.self.now.ti_brief c.requires.bounded,
+      reaction_small c.args.self.now.reaction.time.ticks c.args.reached.speed.steps c.args.self.now.reaction.brief c.args.reached.bounded,
+      braking_small c.args.reached.speed.steps (1000 * c.args.self.now.target.tenths) (162 * c.args.net) c.args.reached.bounded,
+      lead_small c.args.self.now.tw c.args.reached.speed.steps c.args.self.now.tw_brief c.args.reached.bounded,
+      lead_small c.args.self.now.ti c.args.reached.speed.steps c.args.self.now.ti_brief c.args.reached.bounded,
     )

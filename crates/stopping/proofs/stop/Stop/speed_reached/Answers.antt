@@ -6,6 +6,7 @@ use Rattle.units.specs.Rounding.{Floored}
 use Rattle.units.specs.Fractions.{whole}
 use Rattle.stopping.specs.Stops.{Stop, Limited, reached_up}
 use Rattle.stopping.specs.Working.{stop_of}
+use Rattle.stopping.specs.declared.stop.Stop.{Stop as StopStruct}
 use Rattle.stopping.proofs.Limits.{limited}
 use Rattle.stopping.proofs.Reaching.{loss_not_below, loss_not_above, loss_small, is_reached_up, reached_up_bounded}
 use Rattle.stopping.proofs.stop.Stop.speed_reached.Goals as goal
@@ -56,31 +57,26 @@ returned s q m f fits e limits =
     let value = is_reached_up s q r f reaches (rw is least) either in
     record { value = value; bounded = rw value (reached_up_bounded s limits); reaches = reaches }
 
-pub overflow_mul-self-2 : goal.overflow_mul-self-2
-overflow_mul-self-2 c =
-    let T : ℕ = c.args.self.now.reaction.ticks in
-    let G : ℤ = c.args.self.now.slope.units in
-    let e : to_z w64 (of_z w64 (pos 9 *ℤ to_z w64 T)) ≡ pos (9 * T) = omega (arith, ints, c.args.self.now.brief) in
-    let k : to_z w64 (of_z w64 G) ≡ G = to_z-of_z w64 G (slope_fits G c.args.self.now.not_steeper_down c.args.self.now.not_steeper_up) in
-    simp (e, k) (product_fits T G c.args.self.now.brief c.args.self.now.not_steeper_down c.args.self.now.not_steeper_up)
-
-pub after_loss-reached-requires : goal.after_loss-reached-requires
-after_loss-reached-requires c =
-    let self = c.args.self.now in
-    let q : ℤ = c.quotient_floor-loss.result in
-    let f = loss_floored self.reaction.ticks self.slope.units q self.brief self.not_steeper_down self.not_steeper_up c.quotient_floor-loss.ensures.meaning in
-    let small = loss_within self.reaction.ticks self.slope.units q self.brief self.not_steeper_down self.not_steeper_up f in
-    record { slow = self.slow; not_below = omega (arith, ints, small.0, small.1); not_above = omega (arith, ints, small.0, small.1) }
-
 pub overflow_cast-result : goal.overflow_cast-result
 overflow_cast-result c = let h = c.max.ensures.other_bound in (omega (arith, ints, c.max.type_inv), omega (arith, ints, c.max.type_inv))
 
+-- what is returned, from the loss that was rounded down, what is left of the speed, and the larger of two
+facts : (self : StopStruct) (q r m : ℤ) →
+    Floored (to_z w64 (of_z w64 (to_z w64 (of_z w64 (pos 9 *ℤ to_z w64 self.reaction.time.ticks)) *ℤ to_z w64 (of_z w64 self.slope.units)))) 250000000000 q →
+    r ≡ pos (1000 * self.speed.tenths) -ℤ to_z w64 (of_z w64 q) → mag m < 9223372036854775808 →
+    m ≡ int_max (to_z w64 (of_z w64 r)) (to_z w64 (of_z w64 (pos 1000 *ℤ to_z w64 self.target.tenths))) →
+    record { value : nat_abs (to_z w64 (of_z w64 m)) ≡ reached_up (stop_of self (whole 0)); bounded : nat_abs (to_z w64 (of_z w64 m)) ≤ 5000000; reaches : 1000 * self.target.tenths ≤ nat_abs (to_z w64 (of_z w64 m)) }
+facts self q r m loss left fits is =
+    let f = loss_floored self.reaction.time.ticks self.slope.units q self.reaction.brief self.not_steeper_down self.not_steeper_up loss in
+    let small = loss_within self.reaction.time.ticks self.slope.units q self.reaction.brief self.not_steeper_down self.not_steeper_up f in
+    let a = uncast_reached self.speed.tenths q r self.slow small.0 small.1 left in
+    let b = uncast_target self.target.tenths (le_trans self.lower self.slow) in
+    returned (stop_of self (whole 0)) q m f fits (simp (a, b) at is) (limited self (whole 0))
+
+pub invariant_of-result : goal.invariant_of-result
+invariant_of-result c = record { bounded = (facts c.args.self.now c.quotient_floor-loss.result _ c.max.result c.quotient_floor-loss.ensures.meaning c.after_loss-reached.ensures c.max.type_inv c.max.ensures.value).bounded }
+
 pub returns : goal.returns
 returns c =
-    let self = c.args.self.now in
-    let q : ℤ = c.quotient_floor-loss.result in
-    let f = loss_floored self.reaction.ticks self.slope.units q self.brief self.not_steeper_down self.not_steeper_up c.quotient_floor-loss.ensures.meaning in
-    let small = loss_within self.reaction.ticks self.slope.units q self.brief self.not_steeper_down self.not_steeper_up f in
-    let a = uncast_reached self.speed.tenths q c.after_loss-reached.result self.slow small.0 small.1 c.after_loss-reached.ensures in
-    let b = uncast_target self.target.tenths (le_trans self.lower self.slow) in
-    returned (stop_of self (whole 0)) q c.max.result f c.max.type_inv (simp (a, b) at c.max.ensures.value) (limited self (whole 0))
+    let all = facts c.args.self.now c.quotient_floor-loss.result _ c.max.result c.quotient_floor-loss.ensures.meaning c.after_loss-reached.ensures c.max.type_inv c.max.ensures.value in
+    record { value = all.value; reaches = all.reaches }

@@ -1,9 +1,7 @@
-use Rattle.std.proofs.Common.{◌≡◌, ℕ, ◌+◌, true, false, ℤ, pos, negsuc, ◌+ℤ◌, nat_abs, ◌≤ℤ◌, sym, refl, ap, ◌∙◌, subst, arith, w64, to_z, of_z}
+use Rattle.std.proofs.Common.{◌≡◌, ℕ, ◌+◌, true, false, ℤ, pos, negsuc, ◌+ℤ◌, nat_abs, ◌≤ℤ◌, sym, refl, ap, ◌∙◌, subst, arith, w64, to_z, of_z, Option, None, Some}
 use lib.Signed.{lt_z}
 use Rattle.std.proofs.lemmas.Int.{ints}
 use Rattle.braking.specs.Answers.{Says}
-use Rattle.braking.specs.declared.answer.Answer.{Answer}
-use Rattle.braking.specs.declared.answer.Answer.TheVariants.{Weak, Strong}
 use Rattle.braking.specs.declared.distances.Distances.{Distances}
 use Rattle.stopping.specs.Stops.{Stop, natural, target_steps, reached, reached_up, net, computed_control, computed_lead, computed_distances, verdict}
 use Rattle.stopping.specs.Working.{stop_of}
@@ -25,11 +23,11 @@ abs_natural : (z : ℤ) → lt_z z (pos 500000) ≡ false → nat_abs z ≡ natu
 abs_natural (pos n) h = refl
 abs_natural (negsuc n) h = grind (arith, ints)
 
-says_weak : (s : Stop) (a : Answer) → lt_z (net s) (pos 500000) ≡ true → a ≡ Weak → Says (verdict s) a
+says_weak : (s : Stop) (a : Option Distances) → lt_z (net s) (pos 500000) ≡ true → a ≡ None → Says (verdict s) a
 unfolding verdict
 says_weak s a e is = rw (is, e) tt
 
-says_strong : (s : Stop) (a : Answer) (d : Distances) (B : ℕ) → lt_z (net s) (pos 500000) ≡ false → a ≡ Strong d → B ≡ reached_up s →
+says_strong : (s : Stop) (a : Option Distances) (d : Distances) (B : ℕ) → lt_z (net s) (pos 500000) ≡ false → a ≡ Some d → B ≡ reached_up s →
     d.control.millimetres ≡ computed_control s.reaction B (target_steps s) (nat_abs (net s)) →
     d.warning.millimetres ≡ d.control.millimetres + computed_lead s.tw B →
     d.nominal.millimetres ≡ d.warning.millimetres + computed_lead s.ti B → Says (verdict s) a
@@ -58,7 +56,7 @@ returns c =
         answer = elim c.if-is_weak.branch [
           | then-is_weak w ↦ says_weak (stop_of self exact) _ (sym tested ∙ w.if-is_weak.true) w.answer-is
           | else-is_weak w ↦
-              says_strong (stop_of self exact) _ w.distances.result c.speed_reached-reached.result.steps (sym tested ∙ w.if-is_weak.false) w.answer-is
+              says_strong (stop_of self exact) _ w.distances.result c.speed_reached-reached.result.speed.steps (sym tested ∙ w.if-is_weak.false) w.answer-is
               c.speed_reached-reached.ensures.value (simp (is-net, fits) at w.distances.ensures.control) w.distances.ensures.warning w.distances.ensures.nominal
         ];
       };

@@ -1,0 +1,9 @@
+-- The number of each refusal of a question.
+use Rattle.std.specs.Prelude.{ℕ}
+use Rattle.braking.specs.declared.refusal.Refusal.{Refusal}
+use Rattle.braking.specs.declared.refusal.Refusal.TheVariants.{TooFast, GradeOutOfLimits, NotBinding}
+
+abbrev pub number : Refusal → ℕ
+number TooFast = 8
+number GradeOutOfLimits = 9
+number NotBinding = 13

@@ -1,0 +1,6 @@
+use Rattle.models.specs.Formulas.{reaction_time}
+use Rattle.models.proofs.railway.Railway.reaction_time.Goals as goal
+
+pub returns : goal.returns
+unfolding reaction_time
+returns g c = cc

@@ -1,0 +1,77 @@
+ghost use Rattle.std.specs.Prelude.{◌≡◌, ◌+◌, ◌-◌, ◌*◌, ◌≤◌};
+ghost use Rattle.models.specs.Formulas.{goods_time, passenger_time, pipe_length, pipe_time_by};
+
+use crate::numbers;
+use crate::pipe_time::PipeTime;
+use sheet::{LengthChoice, Service, Values};
+
+// A length of the brake pipe in m, at most 1,000.
+#[derive(Clone, Copy)]
+pub(crate) struct Pipe {
+    pub(crate) metres: u64,
+    ghost short: { metres ≤ 1000 },
+}
+
+impl Pipe {
+    // The length that the pipe is taken to have.
+    pub(crate) fn of(values: &Values) -> Pipe
+        requires { values.now.length ≤ 1000 }
+        ensures { result.metres ≡ pipe_length values.now.lfren values.now.brake values.now.length }
+    {
+        let metres = match (values.lfren, values.brake) {
+            (LengthChoice::Train, _) => u64::from(values.length),
+            (LengthChoice::Fixed, Service::Passenger) => numbers::PASSENGER_LENGTH,
+            (LengthChoice::Fixed, Service::Goods) => numbers::GOODS_LENGTH,
+        };
+        Pipe { metres }
+    }
+
+    // The length that the braking has to fill: none where the electro-pneumatic brake works.
+    fn filled(self, ep: u16) -> Pipe
+        requires { ep ≤ 1 }
+        ensures { result.metres ≡ self.metres * (1 - ep) }
+    {
+        Pipe {
+            metres: self.metres * (1 - u64::from(ep)),
+        }
+    }
+
+    // The square of the length.
+    fn squared(self) -> u64
+        ensures value { result ≡ self.metres * self.metres }
+        ensures bounded { result ≤ 1000000 }
+    {
+        self.metres * self.metres
+    }
+
+    // The time of a passenger brake.
+    fn passenger_time(self) -> PipeTime
+        ensures { result.micros ≡ passenger_time self.metres }
+    {
+        PipeTime {
+            micros: numbers::PASSENGER_PIPE + numbers::PASSENGER_PIPE_SQUARE * self.squared(),
+        }
+    }
+
+    // The time of a goods brake.
+    fn goods_time(self) -> PipeTime
+        ensures { result.micros ≡ goods_time self.metres }
+    {
+        PipeTime {
+            micros: numbers::GOODS_PIPE + numbers::GOODS_PIPE_SQUARE * self.squared(),
+        }
+    }
+
+    // The time until the pipe has carried the braking to its end.
+    pub(crate) fn braking_time(self, brake: Service, ep: u16) -> PipeTime
+        requires { ep ≤ 1 }
+        ensures { result.micros ≡ pipe_time_by brake self.metres ep }
+    {
+        let filled = self.filled(ep);
+        let passenger = filled.passenger_time();
+        match brake {
+            Service::Passenger => passenger,
+            Service::Goods => passenger.longer(self.goods_time()),
+        }
+    }
+}

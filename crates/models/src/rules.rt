@@ -1,0 +1,35 @@
+ghost use Rattle.std.specs.Prelude.{◌≡◌, ◌≤◌, pos, ◌≤ℤ◌};
+ghost use Rattle.sheet.specs.declared.words.Model.{Model};
+ghost use Rattle.stopping.specs.Factors.{rounded_down};
+ghost use Rattle.models.specs.Formulas.{counted_ep, delay, factors, pipe_share, start, top};
+
+use crate::fit_values::FitValues;
+use braking::{Approach, TopSpeed};
+use sheet::{Regime, Values};
+use units::Deceleration;
+
+// What one railway's rules say differently from another's.
+pub trait Rules {
+    ghost name: { Model };
+
+    fn top_speed(regime: Regime) -> TopSpeed
+        ensures { result.speed.tenths ≡ top name regime };
+
+    // Whether the electro-pneumatic brake is counted, 0 or 1.
+    fn counted_ep(values: &Values) -> u16
+        ensures { result ≡ counted_ep name values.now };
+
+    // The share of the pipe time that is counted, in hundredths.
+    fn pipe_share(values: &Values, approach: Approach) -> u64
+        ensures value { result ≡ pipe_share name values.now approach.speed.tenths approach.target.tenths }
+        ensures bounded { result ≤ 200 };
+
+    // The delay of the equipment, in ticks.
+    fn delay() -> u64
+        ensures { result ≡ delay name };
+
+    // What the brake does by itself: the factors one after the other.
+    fn braking(sheet: &FitValues, approach: Approach) -> Deceleration
+        ensures value { result.units ≡ pos (rounded_down (start sheet.now.values.lambda) (factors name sheet.now.values approach.speed.tenths approach.target.tenths)) }
+        ensures bounded { result.units ≤ℤ pos 1000000000 };
+}
