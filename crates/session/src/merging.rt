@@ -22,6 +22,7 @@ pub fn answers(
         match *line {
             Err(fault) => all.push(shown_fault(fault, phase))?,
             Ok(_) => {
+                // where no record is left for a call, what is shown so far is all
                 let Some((entry, behind)) = rest.split_first() else {
                     return Ok(all);
                 };
