@@ -2,14 +2,16 @@
 
 // Reads the first line of each of many texts, each ended by a byte 1, as a call, and prints what is answered to it and where the next line begins.
 use call_lines::read_call;
-use call_text::CallFault;
 use calls::Call;
+use input::{ended_texts, read_input};
 use std::io;
-use std::io::Read;
 use units::{Distance, Grade, Speed};
 
 // The byte that ends a text.
 const END: u8 = 1;
+
+// How many bytes of the standard input are read at the most.
+const MOST: u64 = 1_048_576;
 
 fn show_call(rt: &HostRuntime, call: Call) -> io::Result<()> {
     match call {
@@ -41,36 +43,20 @@ fn show_call(rt: &HostRuntime, call: Call) -> io::Result<()> {
     }
 }
 
-fn show_fault(rt: &HostRuntime, fault: CallFault) -> io::Result<()> {
-    let number = fault.number();
-    let byte = fault.byte();
-    let layer = fault.layer().word();
-    print!(rt; "answer={number} byte={byte} layer={layer}")
-}
-
 fn show(rt: &HostRuntime, text: &[u8]) -> io::Result<()> {
     let line = read_call(text);
     match line.call {
         Ok(call) => show_call(rt, call)?,
-        Err(fault) => show_fault(rt, fault)?,
+        Err(fault) => print!(rt; "{fault}")?,
     }
     let next = line.next;
     println!(rt; " next={next}")
 }
 
-fn show_all(rt: &HostRuntime, texts: &[u8]) -> io::Result<()> {
-    let mut start = 0;
-    for i in 0..texts.len() {
-        if texts[i] == END {
-            show(rt, &texts[start..i])?;
-            start = i + 1;
-        }
+fn main(rt: HostRuntime) -> io::Result<()> {
+    let texts = read_input(&rt, MOST)?;
+    for text in ended_texts(rt.alloc(), texts.as_slice(), END)?.as_slice() {
+        show(&rt, text)?;
     }
     Ok(())
-}
-
-fn main(rt: HostRuntime) -> io::Result<()> {
-    let mut texts = Vec::new(rt.alloc());
-    rt.stdin().take(1_048_576).read_to_end(&mut texts)?;
-    show_all(&rt, texts.as_slice())
 }

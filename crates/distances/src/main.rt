@@ -1,7 +1,6 @@
 #![tactic(auto)]
 
 // The workshop table of a train sheet: the sheet is read from the standard input, printed back and admitted, then come the steps of one question and a row for each speed and grade.
-mod input;
 mod sheet_lines;
 mod steps_lines;
 mod table;
@@ -10,12 +9,15 @@ use braking::Question;
 use input::read_input;
 use models::SheetModel;
 use sheet::Draft;
-use sheet_lines::{show_fault, show_sheet};
+use sheet_lines::show_sheet;
 use sheet_text::read_admitted;
 use std::io;
 use steps_lines::show_steps;
 use table::show_table;
 use units::{Grade, Speed};
+
+// How many bytes of the standard input are read at the most.
+const MOST: u64 = 65_536;
 
 // The question whose steps are shown: from 100 km/h to a stop on the level.
 const SHOWN: Question = Question {
@@ -25,10 +27,10 @@ const SHOWN: Question = Question {
 };
 
 fn main(rt: HostRuntime) -> io::Result<()> {
-    let text = read_input(&rt)?;
+    let text = read_input(&rt, MOST)?;
     let sheet = match read_admitted(text.as_slice()) {
         Ok(sheet) => sheet,
-        Err(fault) => return show_fault(&rt, fault),
+        Err(fault) => return println!(rt; "{fault}"),
     };
     let model = SheetModel::new(&sheet);
     let shown = show_sheet(&rt, &sheet);

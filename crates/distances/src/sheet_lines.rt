@@ -1,5 +1,4 @@
 use sheet::Admitted;
-use sheet_text::SheetFault;
 use sheet_writer::write_sheet;
 use std::io;
 use std::io::Write;
@@ -20,12 +19,4 @@ pub(crate) fn show_sheet(rt: &HostRuntime, sheet: &Admitted) -> io::Result<()> {
             println!(rt; "answer={number}")
         }
     }
-}
-
-// Why a text is not the text of a sheet.
-pub(crate) fn show_fault(rt: &HostRuntime, fault: SheetFault) -> io::Result<()> {
-    let number = fault.number();
-    let byte = fault.byte();
-    let layer = fault.layer().word();
-    println!(rt; "answer={number} byte={byte} layer={layer}")
 }

@@ -1,7 +1,6 @@
 #![tactic(auto)]
 
 // Runs a mission: the standard input holds a train sheet of twelve lines and then call lines; each call line is answered in its turn.
-mod input;
 mod showing;
 
 use calls::{Call, Record};
@@ -11,13 +10,16 @@ use models::SheetModel;
 use session::{calls_in, read_lines, sheet_end};
 use sheet::{Admitted, Draft};
 use sheet_text::read_admitted;
-use showing::{show_answers, show_fault};
+use showing::show_answers;
 use std::alloc::AllocError;
 use std::io;
 use supervision::{BLANK_SECTION, BLANK_TARGET};
 
+// How many bytes of the standard input are read at the most.
+const MOST: u64 = 65_536;
+
 fn main(rt: HostRuntime) -> io::Result<()> {
-    let text = read_input(&rt)?;
+    let text = read_input(&rt, MOST)?;
     let end = sheet_end(text.as_slice()).min(text.len());
     let lines = read_lines(rt.alloc(), &text[end..])?;
     let calls = calls_in(rt.alloc(), lines.as_slice())?;
@@ -27,7 +29,7 @@ fn main(rt: HostRuntime) -> io::Result<()> {
             lines.as_slice(),
             make_calls(&rt, sheet, calls.as_slice())?.as_slice(),
         ),
-        Err(fault) => show_fault(&rt, fault),
+        Err(fault) => println!(rt; "{fault}"),
     }
 }
 

@@ -1,16 +1,7 @@
 use call_text::CallFault;
 use calls::{Call, Record};
 use session::{Shown, answers};
-use sheet_text::SheetFault;
 use std::io;
-
-// Why a text is not the text of a sheet.
-pub(crate) fn show_fault(rt: &HostRuntime, fault: SheetFault) -> io::Result<()> {
-    let number = fault.number();
-    let byte = fault.byte();
-    let layer = fault.layer().word();
-    println!(rt; "answer={number} byte={byte} layer={layer}")
-}
 
 // What each line was answered.
 pub(crate) fn show_answers(

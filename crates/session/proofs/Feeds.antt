@@ -1,43 +1,54 @@
--- Byte by byte: the line feeds that are still to come.
-use Rattle.std.proofs.Common.{◌≡◌, ℕ, zero, suc, ◌+◌, ◌-◌, ◌<◌, true, false, eqb, List, [], ◌∷◌, length, get_or, drop, refl, ap, ◌∙◌, arith}
-use Rattle.std.proofs.lemmas.List.{drop_all, drop_more}
+-- Line by line: the line feeds that are still to come.
+use Rattle.std.proofs.Common.{◌≡◌, ℕ, zero, suc, ◌+◌, ◌-◌, ◌<◌, ◌≤◌, true, false, eqb, List, [], ◌∷◌, length, get_or, drop, refl, ap, ◌∙◌, arith, length-drop}
 use Rattle.std.proofs.lemmas.Bool.{eq-eqb, ne_eqb}
-use Rattle.session.specs.SheetLines.{behind_feeds, feed}
+use Rattle.fields.specs.Lines.{feed}
+use Rattle.fields.proofs.Firsts.{First}
+use Rattle.session.specs.SheetLines.{behind_feeds}
 
--- So many feeds are left to find from the byte i on.
-abbrev pub Seeking : (text : List ℕ) (i left : ℕ) → Type 0
-Seeking text i left = (0 < left) × (behind_feeds 12 text ≡ i + behind_feeds left (drop i text))
+-- The bytes behind the lines found so far are the rest, and so many feeds are left to find in it.
+abbrev pub Seeking : (text rest : List ℕ) (left : ℕ) → Type 0
+Seeking text rest left = (length rest ≤ length text) × (behind_feeds 12 text ≡ length text - length rest + behind_feeds left rest)
 
-none_left : (text : List ℕ) → behind_feeds 0 text ≡ 0
+pub none_left : (bytes : List ℕ) → behind_feeds 0 bytes ≡ 0
 none_left [] = refl
 none_left (b ∷ bytes) = refl
 
-at_feed : (text : List ℕ) (i left : ℕ) → i < length text → 0 < left → get_or text i 0 ≡ feed → behind_feeds left (drop i text) ≡ 1 + behind_feeds (left - 1) (drop (i + 1) text)
-at_feed text i zero l p e = absurd (omega arith)
-at_feed text i (suc n) l p e =
-    let t : eqb (get_or text i 0) feed ≡ true = eq-eqb (get_or text i 0) feed e in
-    let less : suc n - 1 ≡ n = omega arith in
-    ap (behind_feeds (suc n)) (drop_more text i 0 l) ∙ (rw (t, less))
+-- the first line ends with its feed
+line_more : (m n : ℕ) (bytes : List ℕ) → First feed bytes n → behind_feeds (suc m) bytes ≡ n + 1 + behind_feeds m (drop (n + 1) bytes)
+line_more m n [] f = absurd (omega (arith, f.within))
+line_more m zero (b ∷ bytes) f = let t : eqb b feed ≡ true = eq-eqb b feed f.here in rw t
+line_more m (suc n) (b ∷ bytes) f =
+    let t : eqb b feed ≡ false = ne_eqb b feed (λ e. f.none_before 0 (omega arith) e) in
+    let behind : First feed bytes n = record { within = omega (arith, f.within); here = f.here; none_before = λ k h e. f.none_before (suc k) (omega arith) e } in
+    let more = line_more m n bytes behind in
+    let place : suc n + 1 ≡ suc (n + 1) = omega arith in
+    let same = ap (λ (k : ℕ). behind_feeds m (drop k (b ∷ bytes))) place in
+    rw t (omega (arith, more, same))
 
-at_other : (text : List ℕ) (i left : ℕ) → i < length text → 0 < left → (get_or text i 0 ≡ feed → ⊥) → behind_feeds left (drop i text) ≡ 1 + behind_feeds left (drop (i + 1) text)
-at_other text i zero l p e = absurd (omega arith)
-at_other text i (suc n) l p e =
-    let t : eqb (get_or text i 0) feed ≡ false = ne_eqb (get_or text i 0) feed e in
-    ap (behind_feeds (suc n)) (drop_more text i 0 l) ∙ (rw t)
+-- without a feed all is one line
+no_line : (m : ℕ) (bytes : List ℕ) → ((k : ℕ) → k < length bytes → get_or bytes k 0 ≡ feed → ⊥) → behind_feeds (suc m) bytes ≡ length bytes
+no_line m [] h = refl
+no_line m (b ∷ bytes) h =
+    let t : eqb b feed ≡ false = ne_eqb b feed (λ e. h 0 (omega arith) e) in
+    let more = no_line m bytes (λ k l e. h (suc k) (omega arith) e) in
+    rw t (omega (arith, more))
 
-pub seek_feed : (text : List ℕ) (i left : ℕ) → i < length text → get_or text i 0 ≡ feed → Seeking text i left → 0 < left - 1 → Seeking text (i + 1) (left - 1)
-seek_feed text i left l e s p = (p, s.1 ∙ let k = at_feed text i left l s.0 e in omega arith)
+pub seek_more : (text rest behind : List ℕ) (left after n : ℕ) → behind ≡ drop (n + 1) rest → left ≡ suc after → First feed rest n → Seeking text rest left → Seeking text behind after
+seek_more text rest behind left after n is e f s =
+    let size = length-drop (n + 1) rest in
+    let count = ap length is in
+    let more = line_more after n rest f in
+    let same = ap (λ (k : ℕ). behind_feeds k rest) e in
+    let last = ap (behind_feeds after) is in
+    (omega (arith, s.0), omega (arith, s.0, s.1, f.within))
 
-pub seek_other : (text : List ℕ) (i left : ℕ) → i < length text → (get_or text i 0 ≡ feed → ⊥) → Seeking text i left → Seeking text (i + 1) left
-seek_other text i left l e s = (s.0, s.1 ∙ let k = at_other text i left l s.0 e in omega arith)
+pub not_found : (text rest : List ℕ) (left after : ℕ) → left ≡ suc after → ((k : ℕ) → k < length rest → get_or rest k 0 ≡ feed → ⊥) → Seeking text rest left → length text ≡ behind_feeds 12 text
+not_found text rest left after e h s =
+    let all = no_line after rest h in
+    let same = ap (λ (k : ℕ). behind_feeds k rest) e in
+    omega (arith, s.0, s.1)
 
-pub found_last : (text : List ℕ) (i left : ℕ) → i < length text → get_or text i 0 ≡ feed → Seeking text i left → left - 1 ≡ 0 → i + 1 ≡ behind_feeds 12 text
-found_last text i left l e s p =
-    let k = at_feed text i left l s.0 e in
-    let z : behind_feeds (left - 1) (drop (i + 1) text) ≡ 0 = ap (λ (n : ℕ). behind_feeds n (drop (i + 1) text)) p ∙ none_left (drop (i + 1) text) in
-    omega (arith, s.1)
-
-pub not_found : (text : List ℕ) (i left : ℕ) → i ≡ length text → Seeking text i left → length text ≡ behind_feeds 12 text
-not_found text i left e s =
-    let z : behind_feeds left (drop i text) ≡ 0 = ap (behind_feeds left) (drop_all i text (omega arith)) in
-    omega (arith, s.1)
+pub all_found : (text rest : List ℕ) (left : ℕ) → left ≡ 0 → Seeking text rest left → length text - length rest ≡ behind_feeds 12 text
+all_found text rest left e s =
+    let none = ap (λ (k : ℕ). behind_feeds k rest) e ∙ none_left rest in
+    omega (arith, s.0, s.1)

@@ -1,5 +1,7 @@
 -- What the lines of a text are read as, and the calls among them.
-use Rattle.std.specs.Prelude.{◌≡◌, ℕ, List, [], ◌∷◌, drop, Ok, Err, Result, ◌≢◌}
+use Rattle.std.specs.Prelude.{◌≡◌, ℕ, List, [], ◌∷◌, drop, Result, ◌≢◌}
+use Rattle.std.specs.List.{filter_map}
+use Rattle.std.specs.Result.{result_ok}
 use Rattle.calls.specs.declared.call.Call.{Call}
 use Rattle.call_text.specs.Lines.{Answers}
 use Rattle.call_text.specs.declared.call_fault.CallFault.{CallFault}
@@ -11,6 +13,4 @@ ReadAs text (line ∷ lines) = (text ≢ []) × ((next : ℕ) × Answers text li
 
 -- The calls among the lines.
 abbrev pub calls_of : List (Result Call CallFault) → List Call
-calls_of [] = []
-calls_of (Ok c ∷ lines) = c ∷ calls_of lines
-calls_of (Err f ∷ lines) = calls_of lines
+calls_of lines = filter_map (λ (line : Result Call CallFault). result_ok line) lines

@@ -1,8 +1,6 @@
 -- Where the first lines of a text end.
 use Rattle.std.specs.Prelude.{ℕ, zero, suc, ◌+◌, cond, List, [], ◌∷◌, ◌==◌}
-
-abbrev pub feed : ℕ
-feed = 10
+use Rattle.fields.specs.Lines.{feed}
 
 -- How many bytes there are up to and with the n-th line feed, or in all where there are fewer.
 abbrev pub behind_feeds : (n : ℕ) → List ℕ → ℕ

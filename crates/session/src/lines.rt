@@ -11,11 +11,11 @@ pub fn read_lines(heap: Global, text: &[u8]) -> Result<Vec<Result<Call, CallFaul
     ensures { IfOk result (λ v. ReadAs text.now v.items) }
 {
     let mut lines = Vec::new(heap);
-    let mut at = 0;
-    while at < text.len() {
-        let line = read_call(&text[at..]);
+    let mut rest = text;
+    while !rest.is_empty() {
+        let line = read_call(rest);
         lines.push(line.call)?;
-        at += line.next;
+        rest = &rest[line.next..];
     }
     Ok(lines)
 }
@@ -24,12 +24,5 @@ pub fn read_lines(heap: Global, text: &[u8]) -> Result<Vec<Result<Call, CallFaul
 pub fn calls_in(heap: Global, lines: &[Result<Call, CallFault>]) -> Result<Vec<Call>, AllocError>
     ensures { IfOk result (λ v. v.items ≡ calls_of lines.now) }
 {
-    let mut calls = Vec::new(heap);
-    for line in lines {
-        match *line {
-            Ok(call) => calls.push(call)?,
-            Err(_) => {}
-        }
-    }
-    Ok(calls)
+    lines.iter().filter_map(|line| line.ok()).collect(heap)
 }

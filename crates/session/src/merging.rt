@@ -17,18 +17,18 @@ pub fn answers(
 {
     let mut all = Vec::new(heap);
     let mut phase = Phase::Free;
-    let mut next = 0;
+    let mut rest = records;
     for line in lines {
         match *line {
             Err(fault) => all.push(shown_fault(fault, phase))?,
             Ok(_) => {
-                if next >= records.len() {
+                // where no record is left for a call, what is shown so far is all
+                let Some((entry, behind)) = rest.split_first() else {
                     return Ok(all);
-                }
-                let entry = records[next];
-                next += 1;
+                };
+                all.push(shown_record(*entry))?;
                 phase = entry.phase;
-                all.push(shown_record(entry))?;
+                rest = behind;
             }
         }
     }

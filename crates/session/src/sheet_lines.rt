@@ -1,5 +1,7 @@
-ghost use Rattle.std.specs.Prelude.{◌≡◌, Decides};
-ghost use Rattle.session.specs.SheetLines.{behind_feeds, feed};
+ghost use Rattle.std.specs.Prelude.{◌≡◌};
+ghost use Rattle.session.specs.SheetLines.{behind_feeds};
+
+use fields::first_of;
 
 // How many lines a sheet's text has.
 const SHEET_LINES: usize = 12;
@@ -8,20 +10,12 @@ const SHEET_LINES: usize = 12;
 pub fn sheet_end(text: &[u8]) -> usize
     ensures { result ≡ behind_feeds 12 text.now }
 {
-    let mut left = SHEET_LINES;
-    for i in 0..text.len() {
-        if is_feed(text[i]) {
-            left -= 1;
-            if left == 0 {
-                return i + 1;
-            }
+    let mut rest = text;
+    for _line in 0..SHEET_LINES {
+        match first_of(rest, b'\n') {
+            Some(feed) => rest = &rest[feed + 1..],
+            None => return text.len(),
         }
     }
-    text.len()
-}
-
-fn is_feed(byte: u8) -> bool
-    ensures { Decides result (byte ≡ feed) }
-{
-    byte == b'\n'
+    text.len() - rest.len()
 }

@@ -5,8 +5,7 @@ use Rattle.sheet.specs.declared.words.Model.TheVariants.{Scmt}
 use Rattle.sheet.specs.declared.words.Regime.TheVariants.{Operation}
 use Rattle.sheet.specs.declared.words.Service.TheVariants.{Passenger}
 use Rattle.sheet.specs.declared.words.LengthChoice.TheVariants.{Fixed}
-use Rattle.sheet.specs.declared.number_key.NumberKey.{NumberKey}
-use Rattle.sheet.specs.declared.number_key.NumberKey.TheVariants.{Ep, Lambda, Length, Kr, Tw, Ti, Eps}
+use Rattle.sheet.specs.Values.{put_number}
 use Rattle.sheet.specs.declared.values.Values.{Values}
 use Rattle.sheet.specs.declared.admitted.Admitted.{Admitted}
 use Rattle.sheet.specs.declared.draft.Draft.{Draft}
@@ -18,16 +17,6 @@ use Rattle.sheet_text.specs.declared.faults.SheetFault.{SheetFault}
 use Rattle.sheet_text.specs.declared.faults.SheetFault.TheVariants.{Value, OutOfRange, LeftOver, GoodsBrake}
 use Rattle.sheet_text.specs.declared.key.Key.{Key}
 use Rattle.std.specs.List.{AllByRecursion}
-
--- A sheet with one number changed.
-abbrev pub put_number : NumberKey → ℕ → Values → Values
-put_number Ep n v = record { model = v.model; regime = v.regime; train = v.train; brake = v.brake; ep = n; lambda = v.lambda; length = v.length; lfren = v.lfren; kr = v.kr; tw = v.tw; ti = v.ti; eps = v.eps }
-put_number Lambda n v = record { model = v.model; regime = v.regime; train = v.train; brake = v.brake; ep = v.ep; lambda = n; length = v.length; lfren = v.lfren; kr = v.kr; tw = v.tw; ti = v.ti; eps = v.eps }
-put_number Length n v = record { model = v.model; regime = v.regime; train = v.train; brake = v.brake; ep = v.ep; lambda = v.lambda; length = n; lfren = v.lfren; kr = v.kr; tw = v.tw; ti = v.ti; eps = v.eps }
-put_number Kr n v = record { model = v.model; regime = v.regime; train = v.train; brake = v.brake; ep = v.ep; lambda = v.lambda; length = v.length; lfren = v.lfren; kr = n; tw = v.tw; ti = v.ti; eps = v.eps }
-put_number Tw n v = record { model = v.model; regime = v.regime; train = v.train; brake = v.brake; ep = v.ep; lambda = v.lambda; length = v.length; lfren = v.lfren; kr = v.kr; tw = n; ti = v.ti; eps = v.eps }
-put_number Ti n v = record { model = v.model; regime = v.regime; train = v.train; brake = v.brake; ep = v.ep; lambda = v.lambda; length = v.length; lfren = v.lfren; kr = v.kr; tw = v.tw; ti = n; eps = v.eps }
-put_number Eps n v = record { model = v.model; regime = v.regime; train = v.train; brake = v.brake; ep = v.ep; lambda = v.lambda; length = v.length; lfren = v.lfren; kr = v.kr; tw = v.tw; ti = v.ti; eps = n }
 
 -- A sheet with one entry put in.
 abbrev pub put : Entry → Values → Values

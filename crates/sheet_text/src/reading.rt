@@ -1,7 +1,7 @@
 ghost use Rattle.std.specs.Prelude.{◌≡◌};
 ghost use Rattle.sheet.specs.declared.values.Values.{Values};
 ghost use Rattle.sheet_text.specs.Reading.{LineAnswers, due_of};
-ghost use Rattle.sheet_text.specs.Sheets.{BrakeAsked, FrontAnswers, IsText, OneSheet, SheetAnswers, Taken, put, put_number};
+ghost use Rattle.sheet_text.specs.Sheets.{BrakeAsked, FrontAnswers, IsText, OneSheet, SheetAnswers, Taken, put};
 
 use crate::entry::Entry;
 use crate::faults::SheetFault;
@@ -79,42 +79,7 @@ fn with_entry(values: Values, entry: Entry) -> Values
         Entry::Train(train) => Values { train, ..values },
         Entry::Brake(brake) => Values { brake, ..values },
         Entry::Lfren(lfren) => Values { lfren, ..values },
-        Entry::Number(key, number) => with_number(values, key, number),
-    }
-}
-
-fn with_number(values: Values, key: NumberKey, number: u16) -> Values
-    ensures { result ≡ put_number key number values }
-{
-    match key {
-        NumberKey::Ep => Values {
-            ep: number,
-            ..values
-        },
-        NumberKey::Lambda => Values {
-            lambda: number,
-            ..values
-        },
-        NumberKey::Length => Values {
-            length: number,
-            ..values
-        },
-        NumberKey::Kr => Values {
-            kr: number,
-            ..values
-        },
-        NumberKey::Tw => Values {
-            tw: number,
-            ..values
-        },
-        NumberKey::Ti => Values {
-            ti: number,
-            ..values
-        },
-        NumberKey::Eps => Values {
-            eps: number,
-            ..values
-        },
+        Entry::Number(key, number) => values.with(key, number),
     }
 }
 

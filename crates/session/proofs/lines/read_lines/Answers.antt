@@ -1,15 +1,21 @@
-use Rattle.std.proofs.Common.{◌≡◌, ℕ, ◌+◌, List, [], ◌∷◌, ◌++◌, vec_items, sym, refl, subst}
+use Rattle.std.proofs.Common.{◌≡◌, ◌<◌, length, drop, rules, List, ℕ, [], ◌∷◌, ◌++◌, vec_items, sym, refl, subst}
 use Rattle.std.proofs.lemmas.List.{take_rest}
 use Rattle.std.proofs.lemmas.Slice.{pushed}
-use Rattle.call_text.specs.Lines.{Answers}
 use Rattle.session.proofs.Turns.{Line, SoFar, so_far_all, so_far_more}
 use Rattle.session.proofs.lines.read_lines.Goals as goal
 
-pub loop-at-preserved : goal.loop-at-preserved
-loop-at-preserved c =
-    let items : vec_items c.push.new.self ≡ vec_items c.loop-at.lines ++ c.read_call-line.result.call ∷ [] = pushed (c.read_call-line.result.call ∷ []) refl c.in_ok-push.was c.push.ensures.items in
-    subst (λ (ls : List Line). SoFar c.args.text.now (c.loop-at.at + c.read_call-line.result.next) ls) (sym items)
-    (so_far_more c.args.text.now c.loop-at.at c.read_call-line.result.next (vec_items c.loop-at.lines) c.read_call-line.result.call c.loop-at-test.true (subst (λ (t : List ℕ). Answers t c.read_call-line.result.call c.read_call-line.result.next) (take_rest c.args.text.now c.loop-at.at) c.read_call-line.ensures.answers) c.loop-at.invariant)
+pub loop-rest-preserved : goal.loop-rest-preserved
+loop-rest-preserved c =
+    let text = c.args.text.now in
+    let rest = c.loop-rest.rest.now in
+    let next = c.read_call-line.result.next in
+    let some : 0 < length rest = search rules in
+    let items : vec_items c.push.new.self ≡ vec_items c.loop-rest.lines ++ c.read_call-line.result.call ∷ [] = pushed (c.read_call-line.result.call ∷ []) refl c.in_ok-push.was c.push.ensures.items in
+    subst (λ (t : List ℕ). SoFar text t (vec_items c.push.new.self)) (sym (take_rest rest next))
+    (subst (λ (ls : List Line). SoFar text (drop next rest) ls) (sym items)
+    (so_far_more text rest next (vec_items c.loop-rest.lines) c.read_call-line.result.call some c.read_call-line.ensures.answers c.loop-rest.invariant))
 
 pub returns : goal.returns
-returns c = so_far_all c.args.text.now c.loop-at.at (vec_items c.loop-at.lines) c.loop-at-test.false c.loop-at.invariant
+returns c =
+    let none : length c.loop-rest.rest.now ≡ 0 = search rules in
+    so_far_all c.args.text.now c.loop-rest.rest.now (vec_items c.loop-rest.lines) none c.loop-rest.invariant

@@ -3,4 +3,4 @@ use Rattle.session.proofs.Turns.{Told}
 use Rattle.session.proofs.merging.answers.Given as goal
 
 abbrev pub invariant-loop-line : goal.invariant-loop-line
-invariant-loop-line l = Told l.lines l.records l.line-index l.next l.phase (vec_items l.all)
+invariant-loop-line l = Told l.lines l.records l.line-index l.rest l.phase (vec_items l.all)

@@ -1,19 +1,20 @@
-use Rattle.std.proofs.Common.{◌≡◌, ℕ, ◌+◌, true, false, sym, ◌∙◌, subst, arith}
-use Rattle.session.proofs.Feeds.{Seeking, found_last, not_found, seek_feed, seek_other}
+use Rattle.std.proofs.Common.{◌-◌, ◌+◌, arith}
+use Rattle.std.proofs.lemmas.List.{take_rest}
+use Rattle.fields.specs.Lines.{feed}
+use Rattle.fields.proofs.Firsts.{first, nowhere}
+use Rattle.session.proofs.Feeds.{seek_more, not_found, all_found}
 use Rattle.session.proofs.sheet_lines.sheet_end.Goals as goal
-use Rattle.session.proofs.sheet_lines.sheet_end.Goals.{then-is_feed+else-left-eq0, else-is_feed}
 
-pub returns-then-left-eq0 : goal.returns-then-left-eq0
-returns-then-left-eq0 c = found_last c.args.text.now c.loop-i.i c.loop-i.left c.loop-i-test.true (c.is_feed.ensures.0 c.if-is_feed.true) c.loop-i.invariant c.if-left-eq0.true
+pub returns-in-None : goal.returns-in-None
+returns-in-None c =
+    let rest = c.loop-line.rest.now in
+    not_found c.args.text.now rest (12 - c.loop-line._line) (12 - (c.loop-line._line + 1)) (omega (arith, c.loop-line-test.true)) (nowhere feed rest c.in-None.ensures) c.loop-line.invariant
 
-pub loop-i-preserved : goal.loop-i-preserved
-loop-i-preserved c = elim c.if-is_feed.branch [
-  | then-is_feed+else-left-eq0 w ↦ subst (λ (n : ℕ). Seeking c.args.text.now (c.loop-i.i + 1) n) (sym w.left-is)
-      (seek_feed c.args.text.now c.loop-i.i c.loop-i.left c.loop-i-test.true (c.is_feed.ensures.0 w.if-is_feed.true) c.loop-i.invariant (let k = w.if-left-eq0.false in omega arith))
-  | else-is_feed w ↦ subst (λ (n : ℕ). Seeking c.args.text.now (c.loop-i.i + 1) n) (sym w.left-is)
-      (seek_other c.args.text.now c.loop-i.i c.loop-i.left c.loop-i-test.true
-      (λ e. let t : true ≡ false = sym (c.is_feed.ensures.1 e) ∙ w.if-is_feed.false in let z : ◌≡◌ {A = ℕ} 0 1 = cc in omega arith) c.loop-i.invariant)
-]
+pub loop-line-preserved : goal.loop-line-preserved
+loop-line-preserved c =
+    let rest = c.loop-line.rest.now in
+    let n = c.in-Some.feed in
+    seek_more c.args.text.now rest _ (12 - c.loop-line._line) (12 - (c.loop-line._line + 1)) n (take_rest rest (n + 1)) (omega (arith, c.loop-line-test.true)) (first feed rest n c.in-Some.ensures) c.loop-line.invariant
 
 pub returns : goal.returns
-returns c = not_found c.args.text.now c.loop-i.i c.loop-i.left (let k = c.loop-i.auto.i-end in let m = c.loop-i-test.false in omega arith) c.loop-i.invariant
+returns c = all_found c.args.text.now c.loop-line.rest.now (12 - c.loop-line._line) (omega (arith, c.loop-line-test.false)) c.loop-line.invariant

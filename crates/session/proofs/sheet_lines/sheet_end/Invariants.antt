@@ -1,5 +1,6 @@
+use Rattle.std.proofs.Common.{◌-◌}
 use Rattle.session.proofs.Feeds.{Seeking}
 use Rattle.session.proofs.sheet_lines.sheet_end.Given as goal
 
-abbrev pub invariant-loop-i : goal.invariant-loop-i
-invariant-loop-i l = Seeking l.text l.i l.left
+abbrev pub invariant-loop-line : goal.invariant-loop-line
+invariant-loop-line l = Seeking l.text l.rest (12 - l._line)
