@@ -9,18 +9,6 @@ use Rattle.supervision.specs.Missions.{eps_of, state_of}
 use Rattle.journey.proofs.Follows.{Followed, follow_more, follow_start}
 use Rattle.journey.proofs.running.follow.Goals as goal
 
-pub loop-call-init : goal.loop-call-init
-loop-call-init g c = follow_start g.M.BrakingModel.meaning c.args.mission.now c.args.lists.now (vec_items c.new-records.result) c.new-records.ensures.items
-
-pub returns-in_err-push : goal.returns-in_err-push
-returns-in_err-push g c =
-    let p = err_from_is_err_and c.from_residual.result c.from_residual.ensures.1 in
-    let f = c.loop-call.invariant in
-    record {
-      history = rw p.1 tt;
-      train = record { sheet = c.apply.ensures.made.train.sheet ∙ f.train.sheet; model = c.apply.ensures.made.train.model ∙ f.train.model };
-    }
-
 pub loop-call-preserved : goal.loop-call-preserved
 loop-call-preserved g c =
     let more : take (c.loop-call.call-index + 1) c.args.calls.now ≡ take c.loop-call.call-index c.args.calls.now ++ get_or c.args.calls.now c.loop-call.call-index (Slope (record { millimetres = 0 }) (record { thousandths = pos 0 })) ∷ [] =
@@ -33,11 +21,3 @@ loop-call-preserved g c =
     (take (c.loop-call.call-index + 1) c.args.calls.now) (vec_items c.push.new.self) =
     rw (more, items) next in
     there
-
-pub returns : goal.returns
-returns g c = let f = c.loop-call.invariant in
-    let all : take c.loop-call.call-index c.args.calls.now ≡ c.args.calls.now = take_all c.loop-call.call-index c.args.calls.now c.loop-call-test.false in
-    record {
-      history = f.records ∙ ap (λ (cs : List Call). run (eps_of c.args.mission.now) (g.M.BrakingModel.meaning c.args.mission.now.model) (state_of c.args.mission.now c.args.lists.now) cs) all;
-      train = f.train;
-    }

@@ -35,8 +35,3 @@ loop-byte-preserved c =
       more bytes i c.loop-byte-test.true is.0 c.loop-byte.invariant.0,
       omega (arith, is.1, c.loop-byte.invariant.1, digit (get_or bytes i 0) is.0, digits_value_more 10 bytes i c.loop-byte-test.true),
     )
-
-pub returns : goal.returns
-returns c =
-    let e : take c.loop-byte.byte-index c.args.bytes.now ≡ c.args.bytes.now = take_all c.loop-byte.byte-index c.args.bytes.now c.loop-byte-test.false in
-    (subst AllDigits e c.loop-byte.invariant.0, c.loop-byte.invariant.1 ∙ ap (digits_value 10) e)

@@ -37,20 +37,6 @@ put place q i j d ds rest old f e l fits is =
     ap (λ (x : List ℕ). set x q d) apart
     ∙ (set_at (take q old) was behind d q (length-take-le q old (omega arith)) ∙ ap (λ (x : List ℕ). take q old ++ (x ++ rest)) (sym more))
 
-pub loop-place-init : goal.loop-place-init
-loop-place-init c =
-    let at = c.args.at in
-    let end = c.args.end in
-    let ds = decimal c.args.number in
-    let old = c.args.out.now in
-    let whole : length ds ≡ end - at = omega (arith, c.requires.all) in (
-      omega arith,
-      omega (arith, c.requires.all),
-      omega arith,
-      λ some. sym (take_all (end - at) ds (omega arith)),
-      sym (ap (λ (x : List ℕ). take end old ++ (x ++ drop end old)) (drop_all (end - at) ds (omega arith)) ∙ take-append-drop end old),
-    )
-
 pub loop-place-preserved : goal.loop-place-preserved
 loop-place-preserved c =
     let at = c.args.at in
@@ -71,15 +57,3 @@ loop-place-preserved c =
       ap (λ (x : List ℕ). set x (place - 1) c.last_digit.result) inv.4
           ∙ put place (place - 1) (place - at) (place - 1 - at) c.last_digit.result ds (drop end old) old (omega arith) (omega arith) (omega arith) (omega (arith, c.requires.fits)) (s.1 ∙ sym c.last_digit.ensures),
     )
-
-pub returns : goal.returns
-returns c =
-    let at = c.args.at in
-    let end = c.args.end in
-    let place = c.loop-place.place in
-    let ds = decimal c.args.number in
-    let old = c.args.out.now in
-    let inv = c.loop-place.invariant in
-    let first : place ≡ at = omega (arith, c.loop-place-test.false, inv.1) in
-    let none : place - at ≡ 0 = omega arith in
-    inv.4 ∙ (ap (λ (x : ℕ). take x old ++ (drop (place - at) ds ++ drop end old)) first ∙ ap (λ (x : ℕ). take at old ++ (drop x ds ++ drop end old)) none)

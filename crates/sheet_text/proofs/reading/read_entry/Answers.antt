@@ -20,9 +20,3 @@ returns c =
           c.span-value.ensures c.name.ensures entry.0 entry.1 entry.2 field.1 field.2.0 field.2.1;
       same = refl;
     }
-
-pub overflow_add-rest : goal.overflow_add-rest
-overflow_add-rest c = omega (arith, within c)
-
-pub overflow_add-rest-2 : goal.overflow_add-rest-2
-overflow_add-rest-2 c = omega (arith, within c)

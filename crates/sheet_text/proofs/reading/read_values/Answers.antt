@@ -4,9 +4,6 @@ use Rattle.sheet_text.proofs.Progress.{Progress, start, step, stop, finish}
 use Rattle.sheet_text.specs.Sheets.{blank, Stops, Fronts}
 use Rattle.sheet_text.proofs.reading.read_values.Goals as goal
 
-pub loop-key-init : goal.loop-key-init
-loop-key-init c = (subst (λ (n : ℕ). Progress c.args.rest.now.text.now 0 n blank) (sym c.requires) (start c.args.rest.now.text.now), refl)
-
 pub loop-key-preserved : goal.loop-key-preserved
 loop-key-preserved c =
     let read = c.in_ok-read_entry.ensures in

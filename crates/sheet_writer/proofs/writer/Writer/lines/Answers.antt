@@ -8,9 +8,6 @@ use Rattle.sheet_writer.proofs.Joining.{join, none}
 use Rattle.sheet_writer.proofs.Taking.{lines_more, room_more}
 use Rattle.sheet_writer.proofs.writer.Writer.lines.Goals as goal
 
-pub loop-entry-init : goal.loop-entry-init
-loop-entry-init c = (none c.args.self.now.out.now c.args.self.now.at (omega (arith, c.requires)), refl)
-
 pub line-requires : goal.line-requires
 line-requires c = room_more c.args.entries.now c.loop-entry.entry-index _ c.loop-entry-test.true c.requires c.loop-entry.invariant.0
 
@@ -22,12 +19,3 @@ loop-entry-preserved c = (
       (join c.loop-entry.invariant.0 c.line.ensures.written),
   c.line.ensures.same ∙ c.loop-entry.invariant.1,
 )
-
-pub returns : goal.returns
-returns c = record {
-  written = subst
-      (λ (es : List Entry). Put c.args.self.now.out.now c.args.self.now.at (lines es) c.loop-entry.self.out.now c.loop-entry.self.at)
-      (take_all c.loop-entry.entry-index c.args.entries.now c.loop-entry-test.false)
-      c.loop-entry.invariant.0;
-  same = c.loop-entry.invariant.1;
-}
