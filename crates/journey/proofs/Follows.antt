@@ -1,5 +1,5 @@
 -- The records so far are the run's, and the mission with its lists is in the state after it.
-use Rattle.std.proofs.Common.{◌≡◌, ℕ, false, List, [], ◌∷◌, ◌++◌, map, IfOk, Ok, Err, Result, sym, refl, ap, ◌∙◌}
+use Rattle.std.proofs.Common.{◌≡◌, ℕ, false, List, [], ◌∷◌, ◌++◌, map, sym, refl, ap, ◌∙◌}
 use Rattle.braking.specs.Meaning.{Meaning}
 use Rattle.calls.specs.Answers.{Answer}
 use Rattle.calls.specs.declared.call.Call.{Call}
@@ -59,11 +59,6 @@ module _ {M : Type 0} (meaning : M → Meaning) (first last next : Mission M) (l
 pub run_calls : (eps : ℕ) (m : Meaning) (s : State) (cs : List Call) → map (λ (e : Record). e.call) (run eps m s cs) ≡ cs
 run_calls eps m s [] = refl
 run_calls eps m s (c ∷ cs) = ap (λ (l : List Call). c ∷ l) (run_calls eps m (step eps m s c).state cs)
-
--- What holds of what was made, holds in other words too.
-pub made_as : {X E : Type 0} {P Q : X → Type 0} (r : Result X E) → IfOk r P → ((x : X) → P x → Q x) → IfOk r Q
-made_as (Ok x) h f = f x h
-made_as (Err e) h f = tt
 
 -- The run of a mission as opened, with empty lists.
 pub opened_run : {M : Type 0} (meaning : M → Meaning) (m : Mission M) (sheet : Admitted) (model : M) (ls : Lists) (room space : ℕ) (cs : List Call) →

@@ -1,4 +1,5 @@
 use Rattle.std.proofs.Common.{◌≡◌, min, map, length, IfOk, vec_items, sym, ap, ◌∙◌, subst}
+use Rattle.std.proofs.lemmas.Result.{IfOk-weaker}
 use Rattle.calls.specs.declared.record.Record.{Record}
 use Rattle.history.specs.History.{History}
 use Rattle.history.specs.Lines.{GivesOneGrade, KeepsTheLines}
@@ -6,7 +7,7 @@ use Rattle.history.specs.Runs.{run}
 use Rattle.history.specs.Step.{start}
 use Rattle.history.proofs.Runs.{every_run, one_grade}
 use Rattle.sheet.specs.declared.admitted.Admitted.{Admitted}
-use Rattle.journey.proofs.Follows.{made_as, opened_run, run_calls}
+use Rattle.journey.proofs.Follows.{opened_run, run_calls}
 use Rattle.journey.proofs.running.run.Goals as goal
 
 pub returns : goal.returns
@@ -21,11 +22,11 @@ returns g c =
     (min 64 (length c.args.sections.now)) (min 32 (length c.args.targets.now)) c.args.calls.now
     o.sheet o.model o.phase o.clear ls.no_sections ls.section_room ls.no_targets ls.target_room in
     let history : IfOk c.follow-records.result (λ v. vec_items v ≡ run c.args.sheet.values.eps (g.M.BrakingModel.meaning c.args.model) (start (min 64 (length c.args.sections.now)) (min 32 (length c.args.targets.now))) c.args.calls.now) =
-    made_as c.follow-records.result c.follow-records.ensures.history (λ v e. e ∙ same) in
+    IfOk-weaker c.follow-records.result _ _ (λ v e. e ∙ same) c.follow-records.ensures.history in
     record {
-      calls = made_as c.follow-records.result history (λ v e. ap (map (λ (x : Record). x.call)) e ∙ run_calls eps m (start room space) c.args.calls.now);
+      calls = IfOk-weaker c.follow-records.result _ _ (λ v e. ap (map (λ (x : Record). x.call)) e ∙ run_calls eps m (start room space) c.args.calls.now) history;
       history = history;
-      lines = made_as c.follow-records.result history (λ v e. subst (λ (h : History). KeepsTheLines c.args.sheet.values.eps (g.M.BrakingModel.meaning c.args.model) h) (sym e) (every_run eps m (g.met.M.BrakingModel.lawful c.args.model) room space c.args.calls.now));
-      grades = made_as c.follow-records.result history (λ v e. subst GivesOneGrade (sym e) (one_grade eps m room space c.args.calls.now));
+      lines = IfOk-weaker c.follow-records.result _ _ (λ v e. subst (λ (h : History). KeepsTheLines c.args.sheet.values.eps (g.M.BrakingModel.meaning c.args.model) h) (sym e) (every_run eps m (g.met.M.BrakingModel.lawful c.args.model) room space c.args.calls.now)) history;
+      grades = IfOk-weaker c.follow-records.result _ _ (λ v e. subst GivesOneGrade (sym e) (one_grade eps m room space c.args.calls.now)) history;
       draft = c.close.ensures ∙ ap (λ (s : Admitted). s.values) (c.follow-records.ensures.train.sheet ∙ o.sheet);
     }
