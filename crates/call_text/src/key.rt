@@ -1,5 +1,5 @@
 // The keys whose values are numbers that are never below zero.
-#[derive(Clone, Copy)]
+#[derive(Clone, Copy, Debug, PartialEq, Eq)]
 pub enum AmountKey {
     Place,
     Point,
@@ -8,7 +8,7 @@ pub enum AmountKey {
 }
 
 // A key of a call line.
-#[derive(Clone, Copy)]
+#[derive(Clone, Copy, Debug, PartialEq, Eq)]
 pub enum Key {
     Call,
     Number,

@@ -1,5 +1,5 @@
 // The five calls, without their values.
-#[derive(Clone, Copy)]
+#[derive(Clone, Copy, Debug, PartialEq, Eq)]
 pub enum Kind {
     Slope,
     Announce,

@@ -1,7 +1,7 @@
 use units::{Distance, Grade, Speed};
 
 // What a mission is asked to do.
-#[derive(Clone, Copy)]
+#[derive(Clone, Copy, Debug, PartialEq, Eq)]
 pub enum Call {
     // the track has this grade from the place on, up to the next section
     Slope {

@@ -6,7 +6,7 @@ use crate::call::Call;
 use crate::phase::Phase;
 
 // A call, what it was answered, and the phase after it.
-#[derive(Clone, Copy)]
+#[derive(Clone, Copy, Debug, PartialEq, Eq)]
 pub struct Record {
     pub call: Call,
     pub answer: Answer,

@@ -1,5 +1,5 @@
 // The form that the value of a key must have.
-#[derive(Clone, Copy)]
+#[derive(Clone, Copy, Debug, PartialEq, Eq)]
 pub enum Due {
     // any bytes: the words are asked by whoever knows them
     Word,

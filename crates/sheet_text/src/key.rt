@@ -1,7 +1,7 @@
 use sheet::NumberKey;
 
 // The keys of a train sheet whose values are words.
-#[derive(Clone, Copy)]
+#[derive(Clone, Copy, Debug, PartialEq, Eq)]
 pub enum WordKey {
     Model,
     Regime,
@@ -11,7 +11,7 @@ pub enum WordKey {
 }
 
 // A key of a train sheet.
-#[derive(Clone, Copy)]
+#[derive(Clone, Copy, Debug, PartialEq, Eq)]
 pub enum Key {
     Word(WordKey),
     Number(NumberKey),
