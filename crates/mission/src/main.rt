@@ -1,16 +1,13 @@
 #![tactic(auto)]
 
 // Runs a mission: the standard input holds a train sheet of twelve lines and then call lines; each call line is answered in its turn.
-mod showing;
-
 use calls::{Call, Record};
 use input::read_input;
 use journey::{Journey, run};
 use models::SheetModel;
-use session::{calls_in, read_lines, sheet_end};
+use session::{answers, calls_in, read_lines, sheet_end};
 use sheet::{Admitted, Draft};
 use sheet_text::read_admitted;
-use showing::show_answers;
 use std::alloc::AllocError;
 use std::io;
 use supervision::{BLANK_SECTION, BLANK_TARGET};
@@ -23,14 +20,15 @@ fn main(rt: HostRuntime) -> io::Result<()> {
     let end = sheet_end(text.as_slice()).min(text.len());
     let lines = read_lines(rt.alloc(), &text[end..])?;
     let calls = calls_in(rt.alloc(), lines.as_slice())?;
-    match read_admitted(&text[..end]) {
-        Ok(sheet) => show_answers(
-            &rt,
-            lines.as_slice(),
-            make_calls(&rt, sheet, calls.as_slice())?.as_slice(),
-        ),
-        Err(fault) => println!(rt; "{fault}"),
+    let sheet = match read_admitted(&text[..end]) {
+        Ok(sheet) => sheet,
+        Err(fault) => return println!(rt; "{fault}"),
+    };
+    let records = make_calls(&rt, sheet, calls.as_slice())?;
+    for shown in answers(rt.alloc(), lines.as_slice(), records.as_slice())?.as_slice() {
+        println!(rt; "{shown}")?;
     }
+    Ok(())
 }
 
 // Makes the calls in a mission with the model that the sheet names.

@@ -1,24 +1,24 @@
 #![tactic(auto)]
 
 // Runs many missions, whose texts stand with a line `next` between them, call by call, and prints what each line is answered.
-mod showing;
 
 use braking::BrakingModel;
+use input::read_input;
 use models::SheetModel;
-use session::{read_lines, sheet_end};
+use session::{Shown, read_lines, sheet_end};
 use sheet::{Admitted, Draft};
 use sheet_text::read_admitted;
-use showing::{show_fault, show_reading_fault, show_record};
 use std::io;
-use std::io::Read;
 use supervision::{BLANK_SECTION, BLANK_TARGET, Lists, Mission};
+
+// How many bytes of the standard input are read at the most.
+const MOST: u64 = 1_048_576;
 
 // The line between two texts.
 const NEXT: &[u8] = b"next\n";
 
 fn main(rt: HostRuntime) -> io::Result<()> {
-    let mut texts = Vec::new(rt.alloc());
-    rt.stdin().take(1_048_576).read_to_end(&mut texts)?;
+    let texts = read_input(&rt, MOST)?;
     let lines = texts
         .as_slice()
         .split_inclusive(|byte| *byte == b'\n')
@@ -36,7 +36,7 @@ fn show_mission(rt: &HostRuntime, text: &[u8]) -> io::Result<()> {
     let end = sheet_end(text).min(text.len());
     match read_admitted(&text[..end]) {
         Ok(sheet) => show_calls(rt, sheet, &text[end..]),
-        Err(fault) => show_fault(rt, fault),
+        Err(fault) => println!(rt; "{fault}"),
     }
 }
 
@@ -60,10 +60,11 @@ fn show_lines<M: BrakingModel>(
 ) -> io::Result<()> {
     let lines = read_lines(rt.alloc(), text)?;
     for line in lines.as_slice() {
-        match *line {
-            Ok(call) => show_record(rt, mission.apply(lists, call))?,
-            Err(fault) => show_reading_fault(rt, fault, mission.phase())?,
-        }
+        let shown = match *line {
+            Ok(call) => Shown::from(mission.apply(lists, call)),
+            Err(fault) => Shown::of_fault(fault, mission.phase()),
+        };
+        println!(rt; "{shown}")?;
     }
     Ok(())
 }

@@ -30,26 +30,6 @@ so_far_all text (x ∷ rest) lines e f = absurd (omega arith)
 abbrev pub Told : List Line → List Record → (i : ℕ) → (rest : List Record) → Phase → List Shown → Type 0
 Told lines records i rest p all = answers_to Free lines records ≡ all ++ answers_to p (drop i lines) rest
 
-pub told_fault : (lines : List Line) (records rest : List Record) (i : ℕ) (p : Phase) (all : List Shown) (f : CallFault) (x : Line) → i < length lines → get_or lines i x ≡ Err f →
-    Told lines records i rest p all → Told lines records (i + 1) rest p (all ++ of_fault f p ∷ [])
-told_fault lines records rest i p all f x l e h =
-    let here : drop i lines ≡ Err f ∷ drop (i + 1) lines = drop_more lines i x l ∙ ap (λ (y : Line). y ∷ drop (i + 1) lines) e in
-    h ∙ (ap (λ (ls : List Line). all ++ answers_to p ls rest) here ∙ sym (append_assoc all (of_fault f p ∷ []) (answers_to p (drop (i + 1) lines) rest)))
 
-pub told_record : (lines : List Line) (records rest behind : List Record) (i : ℕ) (p : Phase) (all : List Shown) (c : Call) (x : Line) (r : Record) → i < length lines → get_or lines i x ≡ Ok c →
-    rest ≡ r ∷ behind → Told lines records i rest p all → Told lines records (i + 1) behind r.phase (all ++ of_record r ∷ [])
-told_record lines records rest behind i p all c x r l e m h =
-    let here : drop i lines ≡ Ok c ∷ drop (i + 1) lines = drop_more lines i x l ∙ ap (λ (y : Line). y ∷ drop (i + 1) lines) e in
-    h ∙ (ap (λ (ls : List Line). all ++ answers_to p ls rest) here
-    ∙ (ap (λ (rs : List Record). all ++ answers_to p (Ok c ∷ drop (i + 1) lines) rs) m
-    ∙ sym (append_assoc all (of_record r ∷ []) (answers_to r.phase (drop (i + 1) lines) behind))))
 
--- Where no record is left for a call, that is all; and where no line is left.
-pub told_short : (lines : List Line) (records rest : List Record) (i : ℕ) (p : Phase) (all : List Shown) (c : Call) (x : Line) → i < length lines → get_or lines i x ≡ Ok c →
-    rest ≡ [] → Told lines records i rest p all → all ≡ answers_to Free lines records
-told_short lines records rest i p all c x l e m h =
-    let here : drop i lines ≡ Ok c ∷ drop (i + 1) lines = drop_more lines i x l ∙ ap (λ (y : Line). y ∷ drop (i + 1) lines) e in
-    sym (h ∙ (ap (λ (ls : List Line). all ++ answers_to p ls rest) here ∙ (ap (λ (rs : List Record). all ++ answers_to p (Ok c ∷ drop (i + 1) lines) rs) m ∙ append-nil all)))
 
-pub told_all : (lines : List Line) (records rest : List Record) (i : ℕ) (p : Phase) (all : List Shown) → length lines ≤ i → Told lines records i rest p all → all ≡ answers_to Free lines records
-told_all lines records rest i p all l h = sym (h ∙ (ap (λ (ls : List Line). all ++ answers_to p ls rest) (drop_all i lines l) ∙ append-nil all))

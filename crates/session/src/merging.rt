@@ -1,6 +1,6 @@
 ghost use Rattle.std.specs.Prelude.{◌≡◌, IfOk};
 ghost use Rattle.calls.specs.declared.phase.Phase.TheVariants.{Free};
-ghost use Rattle.session.specs.Answers.{answers_to, of_fault, of_record};
+ghost use Rattle.session.specs.Answers.{answers_to};
 
 use crate::shown::Shown;
 use call_text::CallFault;
@@ -20,37 +20,17 @@ pub fn answers(
     let mut rest = records;
     for line in lines {
         match *line {
-            Err(fault) => all.push(shown_fault(fault, phase))?,
+            Err(fault) => all.push(Shown::of_fault(fault, phase))?,
             Ok(_) => {
                 // where no record is left for a call, what is shown so far is all
                 let Some((entry, behind)) = rest.split_first() else {
                     return Ok(all);
                 };
-                all.push(shown_record(*entry))?;
+                all.push(Shown::from(*entry))?;
                 phase = entry.phase;
                 rest = behind;
             }
         }
     }
     Ok(all)
-}
-
-fn shown_fault(fault: CallFault, phase: Phase) -> Shown
-    ensures { result ≡ of_fault fault phase }
-{
-    Shown {
-        number: fault.number(),
-        phase,
-        zone: None,
-    }
-}
-
-fn shown_record(entry: Record) -> Shown
-    ensures { result ≡ of_record entry }
-{
-    Shown {
-        number: entry.answer_number(),
-        phase: entry.phase,
-        zone: entry.answer.unwrap_or(None),
-    }
 }

@@ -1,3 +1,1 @@
-pub mod Largest
-pub mod Least
 pub mod Verdicts
