@@ -9,7 +9,7 @@ use std::error::Error;
 use std::fmt;
 
 impl CallFault {
-    // The number that stands for the fault.
+    // The number that stands for the fault: a match, since a kind that holds a byte has no number of its own to cast.
     pub fn number(self) -> u8
         ensures { result ≡ number self }
     {
@@ -21,7 +21,7 @@ impl CallFault {
         }
     }
 
-    // The byte of the line that the fault is at: the line's first where a key or the call is another.
+    // The byte of the line that the fault is at: the line's first, 0, where a key or the call is another.
     pub fn byte(self) -> usize
         ensures { result ≡ fault_byte self }
     {

@@ -10,6 +10,7 @@ pub(crate) struct Fields<'a> {
     pub(crate) rest: Cursor<'a>,
 }
 
+// Each function of the fields says that the text stays: no type says which part of a `&mut` is left alone.
 impl<'a> Fields<'a> {
     // The value of the next field, which has this key.
     pub(crate) fn value(&mut self, key: Key) -> Result<Span<'a>, ValueFault>
@@ -23,7 +24,7 @@ impl<'a> Fields<'a> {
     }
 }
 
-// Where the field ends that begins at a byte: at the next space behind that byte, or where the line ends.
+// Where the field ends that begins at a byte: at the next space behind that byte, or where the line ends. Apart from the fields, so that its fact is of any line and byte.
 fn field_end(line: &[u8], at: usize) -> usize
     ensures { EndsBehind line.now at result }
 {

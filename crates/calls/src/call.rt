@@ -1,3 +1,6 @@
+ghost use Rattle.std.specs.Prelude.{Some};
+
+use std::fmt;
 use units::{Distance, Grade, Speed};
 
 // What a mission is asked to do.
@@ -26,4 +29,39 @@ pub enum Call {
     },
     // let the emergency brake go
     Release,
+}
+
+// A call prints as its word and its values.
+impl fmt::Display for Call {
+    ghost use Rattle.calls.specs.Printed.{call_shown};
+
+    ghost output = { λ c. Some (call_shown c) };
+
+    fn fmt<W: fmt::Write>(&self, f: &mut fmt::Formatter<W>) -> fmt::Result {
+        match self {
+            Call::Slope { place, grade } => {
+                let (place, grade) = (place.millimetres, grade.thousandths);
+                write!(f, "slope place={place} grade={grade}")
+            }
+            Call::Announce {
+                number,
+                point,
+                distance,
+                speed,
+            } => {
+                let (point, distance) = (point.millimetres, distance.millimetres);
+                let speed = speed.tenths;
+                write!(
+                    f,
+                    "announce number={number} point={point} distance={distance} speed={speed}"
+                )
+            }
+            Call::Withdraw { number } => write!(f, "withdraw number={number}"),
+            Call::Sample { place, speed } => {
+                let (place, speed) = (place.millimetres, speed.tenths);
+                write!(f, "sample place={place} speed={speed}")
+            }
+            Call::Release => f.write_str("release"),
+        }
+    }
 }

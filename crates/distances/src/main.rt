@@ -28,6 +28,7 @@ const SHOWN: Question = Question {
 
 fn main(rt: HostRuntime) -> io::Result<()> {
     let text = read_input(&rt, MOST)?;
+    // a fault is printed and no error of the program, so `?` does not serve
     let sheet = match read_admitted(text.as_slice()) {
         Ok(sheet) => sheet,
         Err(fault) => return println!(rt; "{fault}"),

@@ -14,9 +14,6 @@ pub(crate) fn show_sheet(rt: &HostRuntime, sheet: &Admitted) -> io::Result<()> {
             let end = end.min(ROOM);
             rt.stdout().write_all(&memory[0..end])
         }
-        Err(refusal) => {
-            let number = refusal.number();
-            println!(rt; "answer={number}")
-        }
+        Err(refusal) => println!(rt; "answer={}", refusal.number()),
     }
 }

@@ -12,6 +12,7 @@ pub(crate) fn show_steps(
         "speed={} target={} grade={}",
         question.speed.tenths, question.target.tenths, question.grade.thousandths
     )?;
+    // a refusal is printed and no error of the program, so `?` does not serve
     let steps = match model.steps(question) {
         Err(refusal) => return println!(rt; "answer={}", refusal.number()),
         Ok(steps) => steps,

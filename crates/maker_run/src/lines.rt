@@ -12,41 +12,11 @@ pub(crate) fn show_record(
     brake: &ConstantBrake,
     record: Record,
 ) -> io::Result<()> {
-    show_call(rt, record.call)?;
+    println!(rt; "call={}", record.call)?;
     if let Call::Sample { place, speed } = record.call {
         show_question(rt, brake, place, speed)?;
     }
     show_answer(rt, record)
-}
-
-fn show_call(rt: &HostRuntime, call: Call) -> io::Result<()> {
-    match call {
-        Call::Slope { place, grade } => {
-            let place = place.millimetres;
-            let grade = grade.thousandths;
-            println!(rt; "call=slope place={place} grade={grade}")
-        }
-        Call::Announce {
-            number,
-            point,
-            distance,
-            speed,
-        } => {
-            let point = point.millimetres;
-            let distance = distance.millimetres;
-            let speed = speed.tenths;
-            println!(rt;
-                "call=announce number={number} point={point} distance={distance} speed={speed}"
-            )
-        }
-        Call::Withdraw { number } => println!(rt; "call=withdraw number={number}"),
-        Call::Sample { place, speed } => {
-            let place = place.millimetres;
-            let speed = speed.tenths;
-            println!(rt; "call=sample place={place} speed={speed}")
-        }
-        Call::Release => println!(rt; "call=release"),
-    }
 }
 
 // The question for the target at a sample: its grade, the distance left, and what the brake answers.

@@ -20,6 +20,7 @@ fn main(rt: HostRuntime) -> io::Result<()> {
     let end = sheet_end(text.as_slice()).min(text.len());
     let lines = read_lines(rt.alloc(), &text[end..])?;
     let calls = calls_in(rt.alloc(), lines.as_slice())?;
+    // a fault is printed and no error of the program, so `?` does not serve
     let sheet = match read_admitted(&text[..end]) {
         Ok(sheet) => sheet,
         Err(fault) => return println!(rt; "{fault}"),

@@ -33,6 +33,7 @@ fn show(rt: &HostRuntime, model: &SheetModel, number: usize, question: Question)
     let target = question.target.tenths;
     let grade = question.grade.thousandths;
     print!(rt; "{number} {speed} {target} {grade}")?;
+    // a refusal is printed and no error of the program, so `?` does not serve
     let steps = match model.steps(question) {
         Err(refusal) => return println!(rt; " answer={}", refusal.number()),
         Ok(steps) => steps,

@@ -1,5 +1,5 @@
 ghost use Rattle.std.specs.Prelude.{◌≡◌, ◌+◌, ◌-◌, ◌*◌, ◌≤◌};
-ghost use Rattle.models.specs.Formulas.{goods_time, passenger_time, pipe_length, pipe_time_by};
+ghost use Rattle.models.specs.Formulas.{pipe_length, pipe_time_by};
 
 use crate::numbers;
 use crate::pipe_time::PipeTime;
@@ -44,21 +44,13 @@ impl Pipe {
         self.metres * self.metres
     }
 
-    // The time of a passenger brake.
-    fn passenger_time(self) -> PipeTime
-        ensures { result.micros ≡ passenger_time self.metres }
+    // A time for an empty pipe, and one for each square metre more.
+    fn time(self, empty: u64, square: u64) -> PipeTime
+        requires { empty + 1000000 * square ≤ 18500000 }
+        ensures { result.micros ≡ empty + square * (self.metres * self.metres) }
     {
         PipeTime {
-            micros: numbers::PASSENGER_PIPE + numbers::PASSENGER_PIPE_SQUARE * self.squared(),
-        }
-    }
-
-    // The time of a goods brake.
-    fn goods_time(self) -> PipeTime
-        ensures { result.micros ≡ goods_time self.metres }
-    {
-        PipeTime {
-            micros: numbers::GOODS_PIPE + numbers::GOODS_PIPE_SQUARE * self.squared(),
+            micros: empty + square * self.squared(),
         }
     }
 
@@ -68,10 +60,12 @@ impl Pipe {
         ensures { result.micros ≡ pipe_time_by brake self.metres ep }
     {
         let filled = self.filled(ep);
-        let passenger = filled.passenger_time();
+        let passenger = filled.time(numbers::PASSENGER_PIPE, numbers::PASSENGER_PIPE_SQUARE);
         match brake {
             Service::Passenger => passenger,
-            Service::Goods => passenger.longer(self.goods_time()),
+            Service::Goods => {
+                passenger.longer(self.time(numbers::GOODS_PIPE, numbers::GOODS_PIPE_SQUARE))
+            }
         }
     }
 }

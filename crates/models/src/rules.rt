@@ -12,6 +12,7 @@ use units::Deceleration;
 pub trait Rules {
     ghost name: { Model };
 
+    // Two numbers by the regime: a table of each railway's own.
     fn top_speed(regime: Regime) -> TopSpeed
         ensures { result.speed.tenths ≡ top name regime };
 

@@ -8,7 +8,7 @@ pub(crate) fn digit_value(byte: u8) -> Option<u8>
     byte.checked_sub(b'0').filter(|digit| *digit <= 9)
 }
 
-// The byte of the last digit of a number.
+// The byte of the last digit of a number. The cast is proved to lose nothing, where `try_from` would add a case that cannot come.
 pub(crate) fn last_digit(number: u64) -> u8
     ensures { result ≡ 48 + number % 10 }
 {

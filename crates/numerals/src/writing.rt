@@ -6,6 +6,7 @@ use crate::digit::last_digit;
 use crate::width::digits_of;
 
 // Writes the digits of the number from `at` on and answers where they end; where they do not fit it alters nothing.
+// The place is an argument, and not memory that begins there, so that the promise is of the bytes before it too.
 pub fn write_number(out: &mut [u8], at: usize, number: u64) -> Option<usize>
     ensures written { Written out.old at number out.new result }
     ensures read_back { WrittenIsRead }
@@ -30,7 +31,7 @@ fn end_within(room: usize, at: usize, count: usize) -> Option<usize>
 }
 
 // Writes all digits of the number from `at` to `end`, the last one first.
-// The loop has an index, since a proof knows nothing of what an `iter_mut().rev()` wrote.
+// The loop has an index: `iter_mut().rev()` was tried, and an invariant has no name for what it has written.
 fn put_digits(out: &mut [u8], at: usize, end: usize, number: u64)
     requires all { end ≡ at + length (decimal number) }
     requires fits { end ≤ length out.old }

@@ -29,7 +29,3 @@ so_far_all text (x ∷ rest) lines e f = absurd (omega arith)
 -- The answers so far, with those that are still to come of the other lines by the other records.
 abbrev pub Told : List Line → List Record → (i : ℕ) → (rest : List Record) → Phase → List Shown → Type 0
 Told lines records i rest p all = answers_to Free lines records ≡ all ++ answers_to p (drop i lines) rest
-
-
-
-

@@ -5,6 +5,7 @@ use calls::{Phase, Record, Zone};
 use std::fmt;
 
 // What is shown of a call line: the number of its answer, the phase after it, and the zone of an accepted sample.
+// The number is what is printed, of a fault or of a refusal, which have nothing else in common.
 #[derive(Clone, Copy, Debug, PartialEq, Eq)]
 pub struct Shown {
     pub number: u8,

@@ -7,7 +7,7 @@ pub struct Values {
     pub regime: Regime,
     pub train: Service,
     pub brake: Service,
-    // whether the electro-pneumatic brake works, 0 or 1
+    // whether the electro-pneumatic brake works, 0 or 1: a number like the others, since a draft may hold any and admitting refuses it
     pub ep: u16,
     // the braked weight percentage
     pub lambda: u16,

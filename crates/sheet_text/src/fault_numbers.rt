@@ -7,7 +7,7 @@ use std::error::Error;
 use std::fmt;
 
 impl SheetFault {
-    // The number that stands for the fault.
+    // The number that stands for the fault: a match, since a kind that holds a byte has no number of its own to cast.
     pub fn number(self) -> u8
         ensures { result ≡ number self }
     {

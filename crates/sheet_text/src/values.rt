@@ -13,7 +13,7 @@ use sheet::NumberKey;
 // How many digits a number of the sheet may have.
 pub(crate) const MOST_DIGITS: usize = 4;
 
-// The number that the bytes write in at most four digits.
+// The number that the bytes write in at most four digits. The cast is proved to lose nothing, where `try_from` would add a case that cannot come.
 fn read_short(digits: &[u8]) -> Option<u16>
     ensures { Read 4 digits.now result }
 {
@@ -48,6 +48,7 @@ fn asks_range(key: NumberKey, number: u16, byte: usize) -> Result<(), SheetFault
     }
 }
 
+// A match, since a word's key and a number's are two types with readers of their own.
 impl Key {
     // The key with its value, if this has the key's form and is in its range.
     pub(crate) fn entry(self, value: Span) -> Result<Entry, SheetFault>

@@ -106,6 +106,7 @@ impl Word for LengthChoice {
     }
 }
 
+// A match, since each key's word is read as another type.
 impl WordKey {
     // The key with the value whose word this is, if it is one of the key's words.
     pub fn entry(self, word: &[u8]) -> Option<Entry>

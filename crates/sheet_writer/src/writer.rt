@@ -13,6 +13,7 @@ pub(crate) struct Writer<'a> {
     pub(crate) at: usize,
 }
 
+// Each function says that the memory is the same loan: no type says which part of a `&mut` is left alone.
 impl<'a> Writer<'a> {
     // Writes the bytes.
     fn bytes(&mut self, bytes: &[u8])
@@ -34,7 +35,7 @@ impl<'a> Writer<'a> {
         self.at = write_number(self.out, self.at, u64::from(number)).unwrap();
     }
 
-    // Writes the value of the entry.
+    // Writes the value of the entry: a match, since each kind holds another type.
     fn value(&mut self, entry: Entry)
         requires { self.old.at + length (value_text entry) ≤ length self.old.out.now }
         ensures written { Put self.old.out.now self.old.at (value_text entry) self.new.out.now self.new.at }

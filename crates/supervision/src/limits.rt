@@ -18,7 +18,7 @@ pub(crate) fn ask_slope(place: Distance, grade: Grade) -> Result<(), Refusal>
     Ok(())
 }
 
-// Whether a sample is within limits.
+// Whether a sample is within limits. Only the first question is that of a section, so that the two are no twins.
 pub(crate) fn ask_sample(place: Distance, speed: Speed) -> Result<(), Refusal>
     ensures { first (sample_limits place.millimetres speed.tenths) ≡ refusal_in result }
 {

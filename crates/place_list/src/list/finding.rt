@@ -11,9 +11,7 @@ impl<'a, T: Copy> PlaceList<'a, T> {
     pub fn find_place(&self, place: Distance) -> Option<usize>
         ensures { Found place_of place.millimetres (sequence self.now) result }
     {
-        self.items()
-            .iter()
-            .position(|x| x.place == place)
+        self.items().iter().position(|x| x.place == place)
     }
 }
 

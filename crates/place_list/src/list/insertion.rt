@@ -37,8 +37,7 @@ impl<'a, T: Copy> PlaceList<'a, T> {
         ensures before { NotGreaterBefore place_of place.millimetres result (sequence self.now) }
         ensures behind { GreaterFrom place_of place.millimetres result (sequence self.now) }
     {
-        self.items()
-            .partition_point(|x| x.place <= place)
+        self.items().partition_point(|x| x.place <= place)
     }
 
     // Moves the items from the index `at` on one further, and puts the new one there.

@@ -11,6 +11,7 @@ use calls::{Phase, Refusal};
 use units::{Distance, Grade, Speed};
 use zones::{Target, target_place};
 
+// Each call says of its own answer that it is the phase after it, a fact for itself beside what the call made.
 impl<M: BrakingModel> Mission<M> {
     // Adds a section of this grade, which reaches from its place up to, not at, the next one's.
     pub fn slope(

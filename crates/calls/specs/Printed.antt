@@ -1,0 +1,13 @@
+-- How a call is printed.
+use Rattle.std.specs.Prelude.{ℕ, List, ◌++◌, decimal, codes}
+use Rattle.std.specs.Fmt.{signed_decimal}
+use Rattle.calls.specs.declared.call.Call.{Call}
+use Rattle.calls.specs.declared.call.Call.TheVariants.{Slope, Announce, Withdraw, Sample, Release}
+
+abbrev pub call_shown : Call → List ℕ
+call_shown (Slope place grade) = codes "slope place=" ++ (decimal place.millimetres ++ (codes " grade=" ++ signed_decimal grade.thousandths))
+call_shown (Announce n point distance speed) =
+    codes "announce number=" ++ (decimal n ++ (codes " point=" ++ (decimal point.millimetres ++ (codes " distance=" ++ (decimal distance.millimetres ++ (codes " speed=" ++ decimal speed.tenths))))))
+call_shown (Withdraw n) = codes "withdraw number=" ++ decimal n
+call_shown (Sample place speed) = codes "sample place=" ++ (decimal place.millimetres ++ (codes " speed=" ++ decimal speed.tenths))
+call_shown Release = codes "release"
