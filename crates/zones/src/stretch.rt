@@ -40,10 +40,8 @@ impl Stretch {
     pub fn zone_within(self, distances: Distances) -> Zone
         ensures { (exact : Three Fraction) → result ≡ zone_of (strong exact (computed distances)) self.front.millimetres self.place.millimetres }
     {
-        let left = self
-            .place
-            .millimetres
-            .saturating_sub(self.front.millimetres);
+        let front = self.front.millimetres;
+        let left = self.place.millimetres.saturating_sub(front);
         if left <= distances.control.millimetres {
             Zone::Control
         } else if left <= distances.warning.millimetres {
