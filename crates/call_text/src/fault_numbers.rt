@@ -45,6 +45,7 @@ impl CallFault {
     }
 }
 
+// As for a sheet's faults: no one impl of a foreign trait may serve all kinds of fault.
 impl fmt::Display for CallFault {
     ghost output = { λ fault. Some (answer_text (number fault) (fault_byte fault) (layer_of fault)) };
 

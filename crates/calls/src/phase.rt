@@ -26,7 +26,7 @@ impl Phase {
         self == Phase::Emergency
     }
 
-    // The phase's word.
+    // The phase's word: a table of this type alone.
     pub fn word(self) -> &'static str
         ensures { result.now ≡ phase_word self }
     {

@@ -74,6 +74,7 @@ impl BrakingModel for ConstantBrake {
         }
     }
 
+    // One line, as for every brake that is worked out so: a trait's method cannot be given for all of them in another crate.
     fn answer(&self, question: Question) -> Result<Option<Distances>, Refusal> {
         Ok(self.steps(question)?.answer)
     }

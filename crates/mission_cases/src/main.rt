@@ -23,6 +23,7 @@ fn main(rt: HostRuntime) -> io::Result<()> {
         .as_slice()
         .split_inclusive(|byte| *byte == b'\n')
         .collect::<Vec<&[u8]>>(rt.alloc())?;
+    // the index only tells the first from the others: `next` is printed between two
     for (i, mission) in lines.as_slice().split(|line| *line == NEXT).enumerate() {
         if i > 0 {
             println!(rt; "next")?;

@@ -72,6 +72,7 @@ fn show_speed(rt: &HostRuntime, model: &SheetModel, number: usize, speed: u64) -
 fn main(rt: HostRuntime) -> io::Result<()> {
     let mut sheets = SHEETS;
     sheets[0] = sheet_a();
+    // the number is printed
     for (number, values) in sheets.iter().enumerate() {
         match model_of(*values) {
             None => println!(rt; "{number} not admitted")?,

@@ -69,6 +69,7 @@ impl<R: Rules> BrakingModel for Railway<R> {
         R::top_speed(self.sheet.values.regime)
     }
 
+    // One line, as for every brake that is worked out so: a trait's method cannot be given for all of them in another crate.
     fn answer(&self, question: Question) -> Result<Option<Distances>, Refusal> {
         Ok(self.steps(question)?.answer)
     }

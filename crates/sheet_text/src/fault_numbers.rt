@@ -43,7 +43,7 @@ impl SheetFault {
 }
 
 impl Layer {
-    // The layer's word.
+    // The layer's word: a table of this type alone.
     pub fn word(self) -> &'static str
         ensures { result.now ≡ layer_word self }
     {
@@ -63,6 +63,7 @@ impl fmt::Display for Layer {
     }
 }
 
+// As for a call's faults: no one impl of a foreign trait may serve all kinds of fault.
 impl fmt::Display for SheetFault {
     ghost output = { λ fault. Some (answer_text (number fault) (fault_byte fault) (layer_of fault)) };
 

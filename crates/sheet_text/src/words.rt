@@ -30,6 +30,7 @@ impl Key {
     }
 }
 
+// What differs between the types of words stands in these impls; reading one is one function for all.
 impl Word for Model {
     ghost text = { model_word };
 

@@ -22,6 +22,7 @@ fn show(rt: &HostRuntime, text: &[u8]) -> io::Result<()> {
     }
 }
 
+// As in the program for the lines of calls, but for what is shown: the two have no crate in common that could show either.
 fn main(rt: HostRuntime) -> io::Result<()> {
     let texts = read_input(&rt, MOST)?;
     for text in ended_texts(rt.alloc(), texts.as_slice(), END)?.as_slice() {

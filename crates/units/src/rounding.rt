@@ -3,6 +3,8 @@ ghost use Rattle.units.specs.Rounding.{ceiling, floor, RoundedUp, RoundedDown, F
 
 use crate::divisor::Divisor;
 
+// Each quotient takes its two numbers as they are at hand: they have types of their own, and a struct of both would only be taken apart again.
+
 // over / under, rounded up to a whole number.
 pub fn quotient_up(over: u64, under: Divisor) -> u64
     ensures value { result ≡ ceiling over under.value }

@@ -22,6 +22,11 @@ pub by_distances : (z : Zone) (d : Distances) (front place : ℕ) → ((exact : 
 by_distances z d front place h weak s = absurd s
 by_distances z d front place h (strong exact c) s = let e = h exact in simp (s.0, s.1, s.2) at e
 
+-- so they are where the model answered
+pub by_answer : (z : Zone) (r : Result (Option Distances) Refusal) (a : Option Distances) (d : Distances) (front place : ℕ) → r ≡ Ok a → a ≡ Some d →
+    ((exact : Three Fraction) → z ≡ zone_of (strong exact (computed d)) front place) → Judged r front place z
+by_answer z r a d front place is has h = rw (is, has) (by_distances z d front place h)
+
 -- the zone of a target on a grade
 abbrev zone_on : Meaning → (front speed : ℕ) → Target → ℤ → Zone
 zone_on m front speed t g =

@@ -1,7 +1,5 @@
 ghost use Rattle.std.specs.Prelude.{◌≡◌, ◌≤◌};
-ghost use Rattle.braking.specs.Answers.{Says};
-ghost use Rattle.braking.specs.Meaning.{Verdict};
-ghost use Rattle.history.specs.Step.{largest_zone, target_zone, zone as zone_of_sample, zone_of};
+ghost use Rattle.history.specs.Step.{largest_zone, target_zone, zone as zone_of_sample};
 ghost use Rattle.zones.specs.Items.{sections_in, target_of, targets_in};
 ghost use Rattle.zones.specs.Judging.{Judged};
 
@@ -13,6 +11,7 @@ use place_list::Placed;
 use units::{Distance, Grade, Speed};
 
 // The zone of a sample: the largest of its targets', and control above the model's top speed.
+// The parts come one by one: only here is it asked whether the train is slow enough to be a `Train`.
 pub fn sample_zone<M: BrakingModel>(
     model: &M,
     sections: &[Placed<Grade>],
@@ -77,22 +76,12 @@ impl<'a, M: BrakingModel> Train<'a, M> {
     }
 }
 
-// The zone by what the model makes of the question: control where it turns it down.
+// The zone by what the model makes of the question: control where the brake is too weak, and where it is turned down.
 fn judged_zone(judged: Result<Option<Distances>, Refusal>, stretch: Stretch) -> Zone
     ensures { Judged judged stretch.front.millimetres stretch.place.millimetres result }
 {
     match judged {
-        Ok(answer) => answered_zone(answer, stretch),
-        Err(_) => Zone::Control,
-    }
-}
-
-// The zone by the model's answer: control where the brake is too weak.
-fn answered_zone(answer: Option<Distances>, stretch: Stretch) -> Zone
-    ensures { (verdict : Verdict) → Says verdict answer → result ≡ zone_of verdict stretch.front.millimetres stretch.place.millimetres }
-{
-    match answer {
-        None => Zone::Control,
-        Some(distances) => stretch.zone_within(distances),
+        Ok(Some(distances)) => stretch.zone_within(distances),
+        Ok(None) | Err(_) => Zone::Control,
     }
 }

@@ -22,7 +22,7 @@ impl<M: BrakingModel> Mission<M> {
         }
     }
 
-    // The call that is asked for. Only a sample answers a zone.
+    // The call that is asked for. Only a sample answers a zone. A match, since each call has values of its own.
     fn ask(&mut self, lists: &mut Lists<'_>, call: Call) -> Answer
         ensures { Made M.BrakingModel.meaning call result self.old self.new lists.old lists.new }
     {
