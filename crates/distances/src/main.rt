@@ -6,7 +6,7 @@ mod steps_lines;
 mod table;
 
 use braking::Question;
-use input::read_input;
+use input::read_most;
 use models::SheetModel;
 use sheet::Draft;
 use sheet_lines::show_sheet;
@@ -27,7 +27,7 @@ const SHOWN: Question = Question {
 };
 
 fn main(rt: HostRuntime) -> io::Result<()> {
-    let text = read_input(&rt, MOST)?;
+    let text = read_most(rt.alloc(), rt.stdin(), MOST)?;
     // a fault is printed and no error of the program, so `?` does not serve
     let sheet = match read_admitted(text.as_slice()) {
         Ok(sheet) => sheet,

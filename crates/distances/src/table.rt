@@ -6,6 +6,7 @@ use units::{Grade, Speed};
 // The grades of the table, in the order of its rows.
 const GRADES: [i64; 7] = [-35, -21, -20, -10, 0, 10, 35];
 
+// One row: the model is the table's, the speed and the grade are the row's.
 fn show_row(rt: &HostRuntime, model: &SheetModel, speed: u64, grade: i64) -> io::Result<()> {
     let question = Question {
         speed: Speed { tenths: speed },

@@ -1,4 +1,4 @@
-ghost use Rattle.std.specs.Prelude.{◌≡◌, length};
+ghost use Rattle.std.specs.Prelude.{◌≡◌, ◌+◌, ◌^◌, ◌<◌, length};
 ghost use Rattle.std.specs.List.{between};
 ghost use Rattle.fields.specs.Fields.{Answers, LineAnswers};
 ghost use Rattle.fields.specs.Lines.{Cut, Ended};
@@ -21,6 +21,7 @@ impl<'a> Cursor<'a> {
     pub fn upto(self, end: usize) -> Span<'a>
         ensures bytes { result.bytes.now ≡ between self.entry.at end self.entry.text.now }
         ensures byte { result.byte ≡ self.entry.at }
+        ensures counted { result.byte + length result.bytes.now < 2 ^ 64 }
     {
         let end = end.min(self.text.len());
         Span {

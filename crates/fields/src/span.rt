@@ -10,14 +10,14 @@ use crate::keys::value_behind;
 pub struct Span<'a> {
     pub bytes: &'a [u8],
     pub byte: usize,
-    ghost counted: { byte + length bytes.now < 2 ^ 64 },
 }
 
 impl<'a> Span<'a> {
     ghost use Rattle.fields.specs.Fields.{Answers};
 
     // The field of a key in this part of a text.
-    pub fn field(self, key: &[u8], due: Due) -> Result<Field<'a>, ValueFault>
+    pub(crate) fn field(self, key: &[u8], due: Due) -> Result<Field<'a>, ValueFault>
+        requires { self.byte + length self.bytes.now < 2 ^ 64 }
         ensures { Answers self.entry.bytes.now self.entry.byte key.now due result }
     {
         let bytes = value_behind(self.bytes, key).ok_or(ValueFault::OtherKey(self.byte))?;

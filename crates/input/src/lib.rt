@@ -3,5 +3,5 @@
 mod reading;
 mod texts;
 
-pub use reading::read_input;
+pub use reading::read_most;
 pub use texts::ended_texts;

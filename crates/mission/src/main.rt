@@ -2,7 +2,7 @@
 
 // Runs a mission: the standard input holds a train sheet of twelve lines and then call lines; each call line is answered in its turn.
 use calls::{Call, Record};
-use input::read_input;
+use input::read_most;
 use journey::{Journey, run};
 use models::SheetModel;
 use session::{answers, calls_in, read_lines, sheet_end};
@@ -16,7 +16,7 @@ use supervision::{BLANK_SECTION, BLANK_TARGET};
 const MOST: u64 = 65_536;
 
 fn main(rt: HostRuntime) -> io::Result<()> {
-    let text = read_input(&rt, MOST)?;
+    let text = read_most(rt.alloc(), rt.stdin(), MOST)?;
     let end = sheet_end(text.as_slice()).min(text.len());
     let lines = read_lines(rt.alloc(), &text[end..])?;
     let calls = calls_in(rt.alloc(), lines.as_slice())?;

@@ -3,7 +3,7 @@
 // Runs many missions, whose texts stand with a line `next` between them, call by call, and prints what each line is answered.
 
 use braking::BrakingModel;
-use input::read_input;
+use input::read_most;
 use models::SheetModel;
 use session::{Shown, read_lines, sheet_end};
 use sheet::{Admitted, Draft};
@@ -18,7 +18,7 @@ const MOST: u64 = 1_048_576;
 const NEXT: &[u8] = b"next\n";
 
 fn main(rt: HostRuntime) -> io::Result<()> {
-    let texts = read_input(&rt, MOST)?;
+    let texts = read_most(rt.alloc(), rt.stdin(), MOST)?;
     let lines = texts
         .as_slice()
         .split_inclusive(|byte| *byte == b'\n')

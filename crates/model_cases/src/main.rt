@@ -53,6 +53,7 @@ fn show(rt: &HostRuntime, model: &SheetModel, number: usize, question: Question)
     }
 }
 
+// The questions of a sheet at one speed: the model is the sheet's, the speed is one of many.
 fn show_speed(rt: &HostRuntime, model: &SheetModel, number: usize, speed: u64) -> io::Result<()> {
     for target in &TARGETS {
         for grade in &GRADES {

@@ -1,7 +1,7 @@
 #![tactic(auto)]
 
 // Reads many texts, each ended by a byte 1, as train sheets, and prints what is answered to each.
-use input::{ended_texts, read_input};
+use input::{ended_texts, read_most};
 use sheet::Draft;
 use sheet_text::read_sheet;
 use std::io;
@@ -24,7 +24,7 @@ fn show(rt: &HostRuntime, text: &[u8]) -> io::Result<()> {
 
 // As in the program for the lines of calls, but for what is shown: the two have no crate in common that could show either.
 fn main(rt: HostRuntime) -> io::Result<()> {
-    let texts = read_input(&rt, MOST)?;
+    let texts = read_most(rt.alloc(), rt.stdin(), MOST)?;
     for text in ended_texts(rt.alloc(), texts.as_slice(), END)?.as_slice() {
         show(&rt, text)?;
     }

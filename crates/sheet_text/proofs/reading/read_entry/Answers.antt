@@ -1,15 +1,6 @@
-use Rattle.std.proofs.Common.{◌+◌, ◌≤◌, length, refl, arith}
+use Rattle.std.proofs.Common.{refl}
 use Rattle.sheet_text.proofs.LineTexts.{span_read}
 use Rattle.sheet_text.proofs.reading.read_entry.Goals as goal
-use Rattle.sheet_text.proofs.reading.read_entry.Goals.{In_ok-entry}
-
--- the sum of the value's byte and length, and 1 more, is within the text
-within : (c : In_ok-entry) → c.span-value.result.byte + length c.span-value.result.bytes.now + 1 ≤ length c.args.rest.now.text.now
-within c =
-    let field = c.in_ok-field.ensures in
-    let entry = c.in_ok-entry.ensures in
-    (span_read c.args.rest.now.text.now c.args.rest.now.at c.args.key c.in_ok-entry.entry c.in_ok-field.field c.span-value.result c.name.result.now field.0
-    c.span-value.ensures c.name.ensures entry.0 entry.1 entry.2 field.1 field.2.0 field.2.1).3
 
 pub returns : goal.returns
 returns c =
