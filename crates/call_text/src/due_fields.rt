@@ -18,6 +18,7 @@ impl<'a> Fields<'a> {
         ensures answers { FieldsAnswer kind self.old.rest.text.now self.old.rest.at self.new.rest.at result }
         ensures same { self.new.rest.text ≡ self.old.rest.text }
     {
+        // a match, since each kind has fields of its own
         match kind {
             Kind::Slope => self.slope(),
             Kind::Announce => self.announce(),

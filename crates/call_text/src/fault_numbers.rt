@@ -50,6 +50,7 @@ impl fmt::Display for CallFault {
     ghost output = { λ fault. Some (answer_text (number fault) (fault_byte fault) (layer_of fault)) };
 
     fn fmt<W: fmt::Write>(&self, f: &mut fmt::Formatter<W>) -> fmt::Result {
+        // a format that is written to names locals
         let number = self.number();
         let byte = self.byte();
         let layer = self.layer();

@@ -37,7 +37,7 @@ pub fn read_line(text: &[u8]) -> CallLine
             next: line.bytes.len() + 1,
         },
         Err(fault) => CallLine {
-            call: Err(CallFault::Field(ValueFault::Text(fault))),
+            call: Err(CallFault::from(ValueFault::from(fault))),
             next: text.len(),
         },
     }

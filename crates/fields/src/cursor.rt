@@ -10,7 +10,7 @@ use crate::first_byte::first_of;
 use crate::span::Span;
 
 // A text with the byte from which on it is read.
-#[derive(Clone, Copy)]
+#[derive(Clone, Copy, Debug, PartialEq, Eq)]
 pub struct Cursor<'a> {
     pub text: &'a [u8],
     pub at: usize,

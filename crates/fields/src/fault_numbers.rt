@@ -15,7 +15,7 @@ impl ValueFault {
         }
     }
 
-    // The byte of the text that the fault is at.
+    // The byte of the text that the fault is at, which each kind holds.
     pub fn byte(self) -> usize
         ensures { result ≡ fault_byte self }
     {

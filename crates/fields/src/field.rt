@@ -1,7 +1,7 @@
 use crate::span::Span;
 
-// The part of a text that the value of a key was read from.
-#[derive(Clone, Copy)]
+// The part of a text that the value of a key was read from. The form that it has stands in its kind, for whoever reads on.
+#[derive(Clone, Copy, Debug, PartialEq, Eq)]
 pub enum Field<'a> {
     Word(Span<'a>),
     Number(Span<'a>),

@@ -6,7 +6,7 @@ use crate::field::Field;
 use crate::keys::value_behind;
 
 // A part of a text, with the byte of the text that it begins at.
-#[derive(Clone, Copy)]
+#[derive(Clone, Copy, Debug, PartialEq, Eq)]
 pub struct Span<'a> {
     pub bytes: &'a [u8],
     pub byte: usize,

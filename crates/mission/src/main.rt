@@ -17,7 +17,7 @@ const MOST: u64 = 65_536;
 
 fn main(rt: HostRuntime) -> io::Result<()> {
     let text = read_most(rt.alloc(), rt.stdin(), MOST)?;
-    let end = sheet_end(text.as_slice()).min(text.len());
+    let end = sheet_end(text.as_slice());
     let lines = read_lines(rt.alloc(), &text[end..])?;
     let calls = calls_in(rt.alloc(), lines.as_slice())?;
     // a fault is printed and no error of the program, so `?` does not serve

@@ -34,7 +34,7 @@ fn main(rt: HostRuntime) -> io::Result<()> {
 }
 
 fn show_mission(rt: &HostRuntime, text: &[u8]) -> io::Result<()> {
-    let end = sheet_end(text).min(text.len());
+    let end = sheet_end(text);
     match read_admitted(&text[..end]) {
         Ok(sheet) => show_calls(rt, sheet, &text[end..]),
         Err(fault) => println!(rt; "{fault}"),

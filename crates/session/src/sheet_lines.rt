@@ -1,4 +1,4 @@
-ghost use Rattle.std.specs.Prelude.{◌≡◌};
+ghost use Rattle.std.specs.Prelude.{◌≡◌, ◌≤◌, length};
 ghost use Rattle.session.specs.SheetLines.{behind_feeds};
 
 use fields::first_of;
@@ -8,7 +8,8 @@ const SHEET_LINES: usize = 12;
 
 // Where the first twelve lines of a text end: behind the twelfth line feed, or with the text where it has fewer.
 pub fn sheet_end(text: &[u8]) -> usize
-    ensures { result ≡ behind_feeds 12 text.now }
+    ensures value { result ≡ behind_feeds 12 text.now }
+    ensures within { result ≤ length text.now }
 {
     let mut rest = text;
     for _line in 0..SHEET_LINES {

@@ -19,7 +19,7 @@ impl SheetFault {
         }
     }
 
-    // The byte of the text that the fault is at.
+    // The byte of the text that the fault is at, which each kind but one holds.
     pub fn byte(self) -> usize
         ensures { result ≡ fault_byte self }
     {
@@ -55,6 +55,7 @@ impl Layer {
     }
 }
 
+// A layer prints as its word.
 impl fmt::Display for Layer {
     ghost output = { λ layer. Some (layer_word layer) };
 
@@ -68,6 +69,7 @@ impl fmt::Display for SheetFault {
     ghost output = { λ fault. Some (answer_text (number fault) (fault_byte fault) (layer_of fault)) };
 
     fn fmt<W: fmt::Write>(&self, f: &mut fmt::Formatter<W>) -> fmt::Result {
+        // a format that is written to names locals
         let number = self.number();
         let byte = self.byte();
         let layer = self.layer();
