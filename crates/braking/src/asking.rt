@@ -20,7 +20,7 @@ impl Question {
         if speed > top.speed || target > top.speed {
             return Err(Refusal::TooFast);
         }
-        if grade < STEEPEST_FALL || grade > STEEPEST_RISE {
+        if !(STEEPEST_FALL..=STEEPEST_RISE).contains(&grade) {
             return Err(Refusal::GradeOutOfLimits);
         }
         if speed <= target {

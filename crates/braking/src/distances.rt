@@ -19,9 +19,10 @@ impl fmt::Display for Distances {
     ghost output = { λ d. Some (distances_text d) };
 
     fn fmt<W: fmt::Write>(&self, f: &mut fmt::Formatter<W>) -> fmt::Result {
-        let control = self.control.millimetres;
-        let warning = self.warning.millimetres;
-        let nominal = self.nominal.millimetres;
-        write!(f, "control={control} warning={warning} nominal={nominal}")
+        write!(
+            f,
+            "control={} warning={} nominal={}",
+            self.control.millimetres, self.warning.millimetres, self.nominal.millimetres
+        )
     }
 }

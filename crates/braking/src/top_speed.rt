@@ -6,5 +6,6 @@ use units::Speed;
 #[derive(Clone, Copy, Debug, PartialEq, Eq)]
 pub struct TopSpeed {
     pub speed: Speed,
+    // as in `Approach`
     ghost bounded: { speed.tenths ≤ 4000 },
 }

@@ -39,28 +39,27 @@ impl fmt::Display for Call {
 
     fn fmt<W: fmt::Write>(&self, f: &mut fmt::Formatter<W>) -> fmt::Result {
         match self {
-            Call::Slope { place, grade } => {
-                let (place, grade) = (place.millimetres, grade.thousandths);
-                write!(f, "slope place={place} grade={grade}")
-            }
+            Call::Slope { place, grade } => write!(
+                f,
+                "slope place={} grade={}",
+                place.millimetres, grade.thousandths
+            ),
             Call::Announce {
                 number,
                 point,
                 distance,
                 speed,
-            } => {
-                let (point, distance) = (point.millimetres, distance.millimetres);
-                let speed = speed.tenths;
-                write!(
-                    f,
-                    "announce number={number} point={point} distance={distance} speed={speed}"
-                )
-            }
+            } => write!(
+                f,
+                "announce number={number} point={} distance={} speed={}",
+                point.millimetres, distance.millimetres, speed.tenths
+            ),
             Call::Withdraw { number } => write!(f, "withdraw number={number}"),
-            Call::Sample { place, speed } => {
-                let (place, speed) = (place.millimetres, speed.tenths);
-                write!(f, "sample place={place} speed={speed}")
-            }
+            Call::Sample { place, speed } => write!(
+                f,
+                "sample place={} speed={}",
+                place.millimetres, speed.tenths
+            ),
             Call::Release => f.write_str("release"),
         }
     }

@@ -38,7 +38,7 @@ impl Phase {
     }
 }
 
-// A phase prints as its word.
+// A phase prints as its word: an impl of this type alone, since one for all types with words would be of a foreign trait.
 impl fmt::Display for Phase {
     ghost output = { λ p. Some (phase_word p) };
 

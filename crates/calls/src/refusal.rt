@@ -19,7 +19,7 @@ pub enum Refusal {
 }
 
 impl Refusal {
-    // The number that stands for the refusal.
+    // The number that stands for the refusal: a cast of this type's own numbers, since a trait for all such types would want the same line in each impl.
     pub fn number(self) -> u8
         ensures { result ≡ number self }
     {

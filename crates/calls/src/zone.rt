@@ -15,7 +15,7 @@ pub enum Zone {
 }
 
 impl Zone {
-    // The number of the zone.
+    // The number of the zone: a cast of this type's own numbers, since a trait for all such types would want the same line in each impl.
     pub fn number(self) -> u8
         ensures { result ≡ zone_number self }
     {

@@ -22,8 +22,8 @@ pub record Fits (d : BrakeData) : Type 0 where
 -- The brake has the maker's numbers and the sheet's two times.
 pub record Has (d : BrakeData) (v : Values) (b : ConstantBrake) : Type 0 where
   pub stated : b.stated ≡ d
-  pub tw : b.tw ≡ v.tw
-  pub ti : b.ti ≡ v.ti
+  pub tw : b.lead.tw ≡ v.tw
+  pub ti : b.lead.ti ≡ v.ti
 
 abbrev pub Made : BrakeData → Values → Result ConstantBrake Refusal → Type 0
 Made d v (Ok b) = Fits d × Has d v b

@@ -37,17 +37,17 @@ impl ConstantBrake {
         }
     }
 
-    // The steps from a question to its answer, or why it is turned down.
+    // The steps from a question to its answer, or why it is turned down. One line: what each brake says apart is its promise, in its own words.
     pub fn steps(&self, question: Question) -> Result<Steps, Refusal>
-        ensures shown { Shown self.now.stated self.now.tw self.now.ti (question_of question) result }
-        ensures plain { Plain self.now.stated self.now.tw self.now.ti }
+        ensures shown { Shown self.now.stated self.now.lead.tw self.now.lead.ti (question_of question) result }
+        ensures plain { Plain self.now.stated self.now.lead.tw self.now.lead.ti }
     {
         work_out(self, self.top_speed(), question)
     }
 }
 
 impl Stopping for ConstantBrake {
-    ghost stop_for = { λ b. stop_for b.stated b.tw b.ti };
+    ghost stop_for = { λ b. stop_for b.stated b.lead.tw b.lead.ti };
 
     fn stop(&self, approach: Approach) -> Stop {
         let slope = slope(approach);
@@ -57,16 +57,15 @@ impl Stopping for ConstantBrake {
             reaction: self.reaction_time(),
             slope,
             braking: self.braking(),
-            tw: self.tw,
-            ti: self.ti,
+            lead: self.lead,
         }
     }
 }
 
 impl BrakingModel for ConstantBrake {
-    ghost meaning = { λ b. meaning_of b.stated b.tw b.ti };
+    ghost meaning = { λ b. meaning_of b.stated b.lead.tw b.lead.ti };
 
-    ghost lawful = { λ b. brake_lawful b.stated b.tw b.ti b.brief b.slow b.tw_brief b.ti_brief };
+    ghost lawful = { λ b. brake_lawful b.stated b.lead.tw b.lead.ti b.brief b.slow b.lead.tw_brief b.lead.ti_brief };
 
     fn top_speed(&self) -> TopSpeed {
         TopSpeed {

@@ -6,6 +6,7 @@ use crate::brake::ConstantBrake;
 use crate::brake_data::BrakeData;
 use crate::refusal::Refusal;
 use sheet::Admitted;
+use stopping::LeadTimes;
 use units::{FASTEST, Speed};
 
 // The least and the greatest deceleration, in mm/s².
@@ -20,7 +21,7 @@ const LONGEST: u16 = 200;
 fn deceleration_fits(deceleration: u16) -> bool
     ensures { result ≡ deceleration_fits deceleration }
 {
-    deceleration >= WEAKEST && deceleration <= STRONGEST
+    (WEAKEST..=STRONGEST).contains(&deceleration)
 }
 
 // Whether a reaction time in tenths of a second is in its range.
@@ -54,8 +55,10 @@ impl ConstantBrake {
         let values = sheet.values();
         Ok(ConstantBrake {
             stated,
-            tw: values.tw,
-            ti: values.ti,
+            lead: LeadTimes {
+                tw: values.tw,
+                ti: values.ti,
+            },
         })
     }
 }

@@ -20,6 +20,7 @@ pub(crate) fn starting(lambda: u16) -> u64
 }
 
 // The brake fades above VL.
+// This factor and the two of high speed are alike only in the test of the speed: a closure for what stands behind it would be no plainer.
 pub(crate) fn fading(vl: Speed, approach: Approach) -> Factor
     ensures { Is (if nat_lt vl.tenths approach.speed.tenths then ratio (100000 - 21 * (approach.speed.tenths - vl.tenths)) 100000 else whole 1) result }
 {

@@ -30,8 +30,8 @@ impl Rules for EtcsRules {
     }
 
     // As the sheet has it.
-    fn counted_ep(values: &Values) -> u16 {
-        values.ep
+    fn counts_ep(sheet: &FitValues) -> bool {
+        sheet.has_ep()
     }
 
     fn pipe_share(_values: &Values, _approach: Approach) -> u64 {

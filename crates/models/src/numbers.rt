@@ -24,8 +24,8 @@ pub const PASSENGER_LENGTH: u64 = 650;
 
 pub const GOODS_LENGTH: u64 = 1_000;
 
-// ep as scmt counts it
-pub const SCMT_EP: u16 = 0;
+// whether scmt counts the electro-pneumatic brake
+pub const SCMT_EP: bool = false;
 
 // the pipe times, in millionths of a second, and what a square metre adds
 pub const PASSENGER_PIPE: u64 = 3_500_000;

@@ -1,4 +1,4 @@
-ghost use Rattle.std.specs.Prelude.{◌≡◌, ◌+◌, ◌-◌, ◌*◌, ◌≤◌};
+ghost use Rattle.std.specs.Prelude.{◌≡◌, ◌+◌, ◌-◌, ◌*◌, ◌≤◌, if◌then◌else◌};
 ghost use Rattle.models.specs.Formulas.{pipe_length, pipe_time_by};
 
 use crate::numbers;
@@ -6,7 +6,7 @@ use crate::pipe_time::PipeTime;
 use sheet::{LengthChoice, Service, Values};
 
 // A length of the brake pipe in m, at most 1,000.
-#[derive(Clone, Copy)]
+#[derive(Clone, Copy, Debug, PartialEq, Eq, PartialOrd, Ord)]
 pub(crate) struct Pipe {
     pub(crate) metres: u64,
     ghost short: { metres ≤ 1000 },
@@ -27,13 +27,10 @@ impl Pipe {
     }
 
     // The length that the braking has to fill: none where the electro-pneumatic brake works.
-    fn filled(self, ep: u16) -> Pipe
-        requires { ep ≤ 1 }
-        ensures { result.metres ≡ self.metres * (1 - ep) }
+    fn filled(self, ep: bool) -> Pipe
+        ensures { result.metres ≡ self.metres * (1 - (if ep then 1 else 0)) }
     {
-        Pipe {
-            metres: self.metres * (1 - u64::from(ep)),
-        }
+        if ep { Pipe { metres: 0 } } else { self }
     }
 
     // The square of the length.
@@ -55,16 +52,15 @@ impl Pipe {
     }
 
     // The time until the pipe has carried the braking to its end.
-    pub(crate) fn braking_time(self, brake: Service, ep: u16) -> PipeTime
-        requires { ep ≤ 1 }
-        ensures { result.micros ≡ pipe_time_by brake self.metres ep }
+    pub(crate) fn braking_time(self, brake: Service, ep: bool) -> PipeTime
+        ensures { result.micros ≡ pipe_time_by brake self.metres (if ep then 1 else 0) }
     {
         let filled = self.filled(ep);
         let passenger = filled.time(numbers::PASSENGER_PIPE, numbers::PASSENGER_PIPE_SQUARE);
         match brake {
             Service::Passenger => passenger,
             Service::Goods => {
-                passenger.longer(self.time(numbers::GOODS_PIPE, numbers::GOODS_PIPE_SQUARE))
+                passenger.max(self.time(numbers::GOODS_PIPE, numbers::GOODS_PIPE_SQUARE))
             }
         }
     }

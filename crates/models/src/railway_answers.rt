@@ -32,11 +32,11 @@ impl<R: Rules> Railway<R> {
         ensures { result.time.ticks ≡ reaction_time R.name self.now.sheet.values approach.speed.tenths approach.target.tenths }
     {
         let values = self.sheet.values;
-        let pipe = Pipe::of(&values).braking_time(values.brake, R::counted_ep(&values));
+        let pipe = Pipe::of(&values).braking_time(values.brake, R::counts_ep(&self.sheet));
         pipe.delayed(R::pipe_share(&values, approach), R::delay())
     }
 
-    // The steps from a question to its answer, or why it is turned down.
+    // The steps from a question to its answer, or why it is turned down. One line: what each brake says apart is its promise, in its own words.
     pub fn steps(&self, question: Question) -> Result<Steps, Refusal>
         ensures { Shown R.name self.now.sheet.values (question_of question) result }
     {
@@ -54,8 +54,7 @@ impl<R: Rules> Stopping for Railway<R> {
             reaction: self.reaction_time(approach),
             slope: slope(approach),
             braking: R::braking(&self.sheet, approach),
-            tw: self.sheet.values.tw,
-            ti: self.sheet.values.ti,
+            lead: self.sheet.lead(),
         }
     }
 }

@@ -1,4 +1,4 @@
-ghost use Rattle.std.specs.Prelude.{◌≡◌, ◌≤◌, pos, ◌≤ℤ◌};
+ghost use Rattle.std.specs.Prelude.{◌≡◌, ◌≤◌, pos, ◌≤ℤ◌, if◌then◌else◌};
 ghost use Rattle.sheet.specs.declared.words.Model.{Model};
 ghost use Rattle.stopping.specs.Factors.{rounded_down};
 ghost use Rattle.models.specs.Formulas.{counted_ep, delay, factors, pipe_share, start, top};
@@ -16,9 +16,9 @@ pub trait Rules {
     fn top_speed(regime: Regime) -> TopSpeed
         ensures { result.speed.tenths ≡ top name regime };
 
-    // Whether the electro-pneumatic brake is counted, 0 or 1.
-    fn counted_ep(values: &Values) -> u16
-        ensures { result ≡ counted_ep name values.now };
+    // Whether the electro-pneumatic brake is counted.
+    fn counts_ep(sheet: &FitValues) -> bool
+        ensures { counted_ep name sheet.now.values ≡ if result then 1 else 0 };
 
     // The share of the pipe time that is counted, in hundredths.
     fn pipe_share(values: &Values, approach: Approach) -> u64

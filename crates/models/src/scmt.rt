@@ -70,7 +70,7 @@ impl Rules for ScmtRules {
     }
 
     // Never, whatever the sheet has.
-    fn counted_ep(_values: &Values) -> u16 {
+    fn counts_ep(_sheet: &FitValues) -> bool {
         numbers::SCMT_EP
     }
 

@@ -12,9 +12,9 @@ impl NumberKey {
     {
         match self {
             NumberKey::Ep => value <= 1,
-            NumberKey::Lambda => value >= 45 && value <= 160 && value % 5 == 0,
+            NumberKey::Lambda => (45..=160).contains(&value) && value % 5 == 0,
             NumberKey::Length => value <= 1000,
-            NumberKey::Kr => value >= 30 && value <= 150,
+            NumberKey::Kr => (30..=150).contains(&value),
             NumberKey::Tw => value <= 100,
             NumberKey::Ti => value <= 100,
             NumberKey::Eps => value <= 20,

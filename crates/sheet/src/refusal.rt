@@ -1,4 +1,7 @@
-ghost use Rattle.std.specs.Prelude.{◌≡◌};
+ghost use Rattle.std.specs.Prelude.{◌≡◌, Some};
+
+use std::error::Error;
+use std::fmt;
 
 // Why a draft is not admitted.
 #[derive(Clone, Copy, Debug, PartialEq, Eq)]
@@ -12,10 +15,23 @@ pub enum Refusal {
 impl Refusal {
     ghost use Rattle.sheet.specs.Refusals.{number};
 
-    // The number that stands for the refusal.
+    // The number that stands for the refusal: a cast of this type's own numbers, since a trait for all such types would want the same line in each impl.
     pub fn number(self) -> u8
         ensures { result ≡ number self }
     {
         self as u8
     }
 }
+
+// A refusal prints as the answer that it is.
+impl fmt::Display for Refusal {
+    ghost use Rattle.sheet.specs.Refusals.{refusal_text};
+
+    ghost output = { λ r. Some (refusal_text r) };
+
+    fn fmt<W: fmt::Write>(&self, f: &mut fmt::Formatter<W>) -> fmt::Result {
+        write!(f, "answer={}", self.number())
+    }
+}
+
+impl Error for Refusal {}

@@ -5,4 +5,4 @@ use Rattle.stopping.specs.Working.{stop_of}
 use Rattle.stopping.specs.declared.stop.Stop.{Stop}
 
 pub limited : (s : Stop) (exact : Fraction) → Limited (stop_of s exact)
-limited s exact = record { slow = s.slow; lower = s.lower; brief = s.reaction.brief; not_steeper_down = s.not_steeper_down; not_steeper_up = s.not_steeper_up; tw_brief = s.tw_brief; ti_brief = s.ti_brief }
+limited s exact = record { slow = s.slow; lower = s.lower; brief = s.reaction.brief; not_steeper_down = s.not_steeper_down; not_steeper_up = s.not_steeper_up; tw_brief = s.lead.tw_brief; ti_brief = s.lead.ti_brief }

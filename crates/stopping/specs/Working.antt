@@ -17,8 +17,8 @@ stop_of s exact = record {
   slope = s.slope.units;
   braking = exact;
   rounded = natural s.braking.units;
-  tw = s.tw;
-  ti = s.ti;
+  tw = s.lead.tw;
+  ti = s.lead.ti;
 }
 
 -- Each step of a stop.

@@ -1,5 +1,6 @@
 #![tactic(auto)]
 
+mod lead_times;
 mod reached;
 mod reaction_time;
 mod slopes;
@@ -8,6 +9,7 @@ mod stop;
 mod stopping;
 mod working;
 
+pub use lead_times::LeadTimes;
 pub use reaction_time::ReactionTime;
 pub use slopes::slope;
 pub use steps::Steps;

@@ -6,7 +6,7 @@ use crate::reaction_time::ReactionTime;
 use units::{Divisor, FineSpeed, quotient_up};
 
 // The speed when the brake acts, at most 500 km/h.
-#[derive(Clone, Copy)]
+#[derive(Clone, Copy, Debug, PartialEq, Eq, PartialOrd, Ord)]
 pub(crate) struct Reached {
     pub(crate) speed: FineSpeed,
     ghost bounded: { speed.steps ≤ 5000000 },

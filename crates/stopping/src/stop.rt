@@ -1,5 +1,6 @@
 ghost use Rattle.std.specs.Prelude.{◌≤◌, pos, negsuc, ◌≤ℤ◌};
 
+use crate::lead_times::LeadTimes;
 use crate::reaction_time::ReactionTime;
 use units::{Deceleration, Speed};
 
@@ -14,16 +15,13 @@ pub struct Stop {
     pub slope: Deceleration,
     // what the brake does by itself, rounded down
     pub braking: Deceleration,
-    // the warning time, in tenths of a second
-    pub tw: u16,
-    // the hysteresis time, in tenths of a second
-    pub ti: u16,
+    // the warning and the hysteresis time
+    pub lead: LeadTimes,
+    // no `Approach`, which asks more: here the target may be the speed itself
     ghost slow: { speed.tenths ≤ 4000 },
     ghost lower: { target.tenths ≤ speed.tenths },
     ghost not_steeper_down: { negsuc 4199999 ≤ℤ slope.units },
     ghost not_steeper_up: { slope.units ≤ℤ pos 4200000 },
     ghost braking_on: { pos 0 ≤ℤ braking.units },
     ghost braking_bounded: { braking.units ≤ℤ pos 1000000000 },
-    ghost tw_brief: { tw ≤ 100 },
-    ghost ti_brief: { ti ≤ 100 },
 }

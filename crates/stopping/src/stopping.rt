@@ -11,7 +11,7 @@ use braking::{Approach, Question, Refusal, TopSpeed};
 
 // A brake that says what a stop is worked out from, whatever the approach.
 pub trait Stopping {
-    // with the exact deceleration, which the stop of the code has rounded down
+    // The stop of a question, with the exact deceleration: the one that `stop` answers has it rounded down.
     ghost stop_for: { Self → QuestionMeant → StopMeant };
 
     fn stop(&self, approach: Approach) -> Stop

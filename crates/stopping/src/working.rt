@@ -102,16 +102,16 @@ impl Stop {
         requires strong { 500000 ≤ net }
         requires small { net ≤ 2000000000 }
         ensures control { result.control.millimetres ≡ computed_control self.now.reaction.time.ticks reached.speed.steps (1000 * self.now.target.tenths) net }
-        ensures warning { result.warning.millimetres ≡ result.control.millimetres + computed_lead self.now.tw reached.speed.steps }
-        ensures nominal { result.nominal.millimetres ≡ result.warning.millimetres + computed_lead self.now.ti reached.speed.steps }
+        ensures warning { result.warning.millimetres ≡ result.control.millimetres + computed_lead self.now.lead.tw reached.speed.steps }
+        ensures nominal { result.nominal.millimetres ≡ result.warning.millimetres + computed_lead self.now.lead.ti reached.speed.steps }
     {
         let steps = reached.speed.steps;
         let target = 1000 * self.target.tenths;
         let reaction = reached.reaction_term(self.reaction);
         let braking = braking_term(steps * steps - target * target, net);
         let control = reaction + braking;
-        let warning = control + reached.lead_term(self.tw);
-        let nominal = warning + reached.lead_term(self.ti);
+        let warning = control + reached.lead_term(self.lead.tw);
+        let nominal = warning + reached.lead_term(self.lead.ti);
         Distances {
             control: Distance {
                 millimetres: control,

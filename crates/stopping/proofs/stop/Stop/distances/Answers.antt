@@ -23,6 +23,6 @@ overflow_add-nominal c =
       c.lead_term-2.ensures,
       reaction_small c.args.self.now.reaction.time.ticks c.args.reached.speed.steps c.args.self.now.reaction.brief c.args.reached.bounded,
       braking_small c.args.reached.speed.steps (1000 * c.args.self.now.target.tenths) (162 * c.args.net) c.args.reached.bounded,
-      lead_small c.args.self.now.tw c.args.reached.speed.steps c.args.self.now.tw_brief c.args.reached.bounded,
-      lead_small c.args.self.now.ti c.args.reached.speed.steps c.args.self.now.ti_brief c.args.reached.bounded,
+      lead_small c.args.self.now.lead.tw c.args.reached.speed.steps c.args.self.now.lead.tw_brief c.args.reached.bounded,
+      lead_small c.args.self.now.lead.ti c.args.reached.speed.steps c.args.self.now.lead.ti_brief c.args.reached.bounded,
     )
