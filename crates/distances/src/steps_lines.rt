@@ -14,17 +14,21 @@ pub(crate) fn show_steps(
     )?;
     // a refusal is printed and no error of the program, so `?` does not serve
     let steps = match model.steps(question) {
-        Err(refusal) => return println!(rt; "answer={}", refusal.number()),
+        Err(refusal) => return println!(rt; "{refusal}"),
         Ok(steps) => steps,
     };
     println!(rt; "reaction={}", steps.reaction.ticks)?;
     println!(rt; "slope={}", steps.slope.units)?;
     println!(rt; "reached={}", steps.reached.steps)?;
     println!(rt; "net={}", steps.net.units)?;
-    let Some(distances) = steps.answer else {
-        return println!(rt; "weak");
-    };
-    println!(rt; "control={}", distances.control.millimetres)?;
-    println!(rt; "warning={}", distances.warning.millimetres)?;
-    println!(rt; "nominal={}", distances.nominal.millimetres)
+    // a line for each distance, where an answer is printed elsewhere in one
+    match steps.answer {
+        None => println!(rt; "weak"),
+        Some(distances) => println!(rt;
+            "control={}\nwarning={}\nnominal={}",
+            distances.control.millimetres,
+            distances.warning.millimetres,
+            distances.nominal.millimetres
+        ),
+    }
 }

@@ -14,8 +14,9 @@ fn show_row(rt: &HostRuntime, model: &SheetModel, speed: u64, grade: i64) -> io:
         grade: Grade { thousandths: grade },
     };
     print!(rt; "{speed} {grade} ")?;
+    // three columns, where an answer is printed elsewhere with the names of the distances
     match model.answer(question) {
-        Err(refusal) => println!(rt; "answer={}", refusal.number()),
+        Err(refusal) => println!(rt; "{refusal}"),
         Ok(None) => println!(rt; "weak - -"),
         Ok(Some(distances)) => println!(rt;
             "{} {} {}",

@@ -3,7 +3,7 @@
 // Many questions to several maker's brakes, and numbers that make no brake, held to an independent calculation.
 mod cases;
 
-use braking::{BrakingModel, Question};
+use braking::{BrakingModel, Printed, Question};
 use cases::{BRAKES, QUESTIONS, SHEET};
 use constant_brake::{BrakeData, ConstantBrake};
 use sheet::{Admitted, Draft, Rejected};
@@ -34,12 +34,12 @@ fn show_brakes(rt: &HostRuntime, sheet: &Admitted) -> io::Result<()> {
 
 // What a maker states, then why it makes no brake, or a line for each question.
 fn show_brake(rt: &HostRuntime, stated: BrakeData, sheet: &Admitted) -> io::Result<()> {
-    let deceleration = stated.deceleration;
-    let reaction = stated.reaction;
-    let top = stated.top.tenths;
-    println!(rt; "deceleration={deceleration} reaction={reaction} top={top}")?;
+    println!(rt;
+        "deceleration={} reaction={} top={}",
+        stated.deceleration, stated.reaction, stated.top.tenths
+    )?;
     match ConstantBrake::new(stated, sheet) {
-        Err(refusal) => println!(rt; "answer={}", refusal.number()),
+        Err(refusal) => println!(rt; "{refusal}"),
         Ok(brake) => show_questions(rt, &brake),
     }
 }
@@ -53,17 +53,10 @@ fn show_questions(rt: &HostRuntime, brake: &ConstantBrake) -> io::Result<()> {
                 thousandths: *grade,
             },
         };
-        print!(rt; "speed={speed} target={target} grade={grade} ")?;
-        show_answer(rt, brake, question)?;
+        let answer = Printed {
+            answer: brake.answer(question),
+        };
+        println!(rt; "speed={speed} target={target} grade={grade} {answer}")?;
     }
     Ok(())
-}
-
-// The three distances, or `weak`, or the number of the refusal.
-fn show_answer(rt: &HostRuntime, brake: &ConstantBrake, question: Question) -> io::Result<()> {
-    match brake.answer(question) {
-        Err(refusal) => println!(rt; "answer={}", refusal.number()),
-        Ok(None) => println!(rt; "weak"),
-        Ok(Some(distances)) => println!(rt; "{distances}"),
-    }
 }

@@ -19,8 +19,8 @@ const TARGET_ROOM: usize = 32;
 // Opens the sheet with the brake, makes the calls and closes it. The mission's law holds for this brake, by the call's own contract.
 pub(crate) fn drive(heap: Global, sheet: Admitted, brake: ConstantBrake, calls: &[Call]) -> Journey
     ensures calls { IfOk result.records (λ v. map (λ e. e.call) v.items ≡ calls.now) }
-    ensures history { IfOk result.records (λ v. v.items ≡ history_of sheet.values.eps (meaning_of brake.stated brake.tw brake.ti) (start 64 32) calls.now) }
-    ensures lines { IfOk result.records (λ v. KeepsTheLines sheet.values.eps (meaning_of brake.stated brake.tw brake.ti) v.items) }
+    ensures history { IfOk result.records (λ v. v.items ≡ history_of sheet.values.eps (meaning_of brake.stated brake.lead.tw brake.lead.ti) (start 64 32) calls.now) }
+    ensures lines { IfOk result.records (λ v. KeepsTheLines sheet.values.eps (meaning_of brake.stated brake.lead.tw brake.lead.ti) v.items) }
     ensures grades { IfOk result.records (λ v. GivesOneGrade v.items) }
     ensures draft { result.draft.values ≡ sheet.values }
 {

@@ -1,7 +1,8 @@
 use crate::script::{ALLOWED, DISTANCE, POINT, SECTIONS, SHEET};
-use braking::{BrakingModel, Question};
+use braking::{BrakingModel, Printed, Question};
 use calls::{Call, Record};
 use constant_brake::ConstantBrake;
+use session::Shown;
 use std::io;
 use units::{Distance, Speed};
 use zones::{Stretch, target_place};
@@ -26,6 +27,7 @@ fn show_question(
     front: Distance,
     speed: Speed,
 ) -> io::Result<()> {
+    // an early end that prints, which `?` does not
     let Some(place) = target_place(POINT, DISTANCE, SHEET.eps) else {
         return println!(rt; "no place");
     };
@@ -41,22 +43,18 @@ fn show_question(
         target: ALLOWED,
         grade,
     };
-    match brake.answer(question) {
-        Err(refusal) => println!(rt; "answer={}", refusal.number()),
-        Ok(None) => println!(rt; "weak"),
-        Ok(Some(distances)) => println!(rt; "{distances}"),
-    }
+    let answer = Printed {
+        answer: brake.answer(question),
+    };
+    println!(rt; "{answer}")
 }
 
 fn show_answer(rt: &HostRuntime, record: Record) -> io::Result<()> {
-    let number = record.answer_number();
     let phase = record.phase;
-    print!(rt; "answer={number} phase={phase} zone=")?;
-    match record.answer {
-        Ok(Some(zone)) => print!(rt; "{}", zone.number())?,
-        Ok(None) | Err(_) => print!(rt; "-")?,
-    }
     let traction = if phase.cuts_traction() { "cut" } else { "on" };
     let brake = if phase.applies_brake() { "on" } else { "off" };
-    println!(rt; " traction={traction} brake={brake}")
+    println!(rt;
+        "{} traction={traction} brake={brake}",
+        Shown::from(record)
+    )
 }

@@ -19,7 +19,7 @@ fn main(rt: HostRuntime) -> io::Result<()> {
         Err(rejected) => {
             let Rejected { refusal, draft } = rejected;
             let Draft { values: _ } = draft;
-            println!(rt; "answer={}", refusal.number())
+            println!(rt; "{refusal}")
         }
     }
 }
@@ -30,7 +30,7 @@ fn open(rt: &HostRuntime, sheet: Admitted) -> io::Result<()> {
         Ok(brake) => follow(rt, sheet, brake),
         Err(refusal) => {
             let Draft { values: _ } = sheet.into_draft();
-            println!(rt; "answer={}", refusal.number())
+            println!(rt; "{refusal}")
         }
     }
 }

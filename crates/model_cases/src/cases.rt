@@ -8,21 +8,8 @@ pub const TARGETS: [u64; 3] = [0, 300, 1450];
 
 pub const GRADES: [i64; 8] = [-36, -35, -21, -20, 0, 1, 35, 36];
 
-pub const SHEETS: [Values; 10] = [
-    Values {
-        model: Model::Scmt,
-        regime: Regime::Operation,
-        train: Service::Passenger,
-        brake: Service::Passenger,
-        ep: 0,
-        lambda: 100,
-        length: 400,
-        lfren: LengthChoice::Fixed,
-        kr: 100,
-        tw: 20,
-        ti: 30,
-        eps: 0,
-    },
+// The sheets behind sheet A.
+pub const SHEETS: [Values; 9] = [
     Values {
         model: Model::Scmt,
         regime: Regime::Trial,

@@ -29,19 +29,20 @@ fn model_of(values: Values) -> Option<SheetModel> {
 
 // One question in a line: its refusal, or its steps.
 fn show(rt: &HostRuntime, model: &SheetModel, number: usize, question: Question) -> io::Result<()> {
-    let speed = question.speed.tenths;
-    let target = question.target.tenths;
-    let grade = question.grade.thousandths;
-    print!(rt; "{number} {speed} {target} {grade}")?;
+    print!(rt;
+        "{number} {} {} {}",
+        question.speed.tenths, question.target.tenths, question.grade.thousandths
+    )?;
     // a refusal is printed and no error of the program, so `?` does not serve
     let steps = match model.steps(question) {
-        Err(refusal) => return println!(rt; " answer={}", refusal.number()),
+        Err(refusal) => return println!(rt; " {refusal}"),
         Ok(steps) => steps,
     };
     print!(rt;
         " {} {} {} {}",
         steps.reaction.ticks, steps.slope.units, steps.reached.steps, steps.net.units
     )?;
+    // numbers alone, where an answer is printed elsewhere with the names of the distances
     match steps.answer {
         None => println!(rt; " weak"),
         Some(distances) => println!(rt;
@@ -71,10 +72,8 @@ fn show_speed(rt: &HostRuntime, model: &SheetModel, number: usize, speed: u64) -
 }
 
 fn main(rt: HostRuntime) -> io::Result<()> {
-    let mut sheets = SHEETS;
-    sheets[0] = sheet_a();
     // the number is printed
-    for (number, values) in sheets.iter().enumerate() {
+    for (number, values) in [sheet_a()].iter().chain(&SHEETS).enumerate() {
         match model_of(*values) {
             None => println!(rt; "{number} not admitted")?,
             Some(model) => {

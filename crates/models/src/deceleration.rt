@@ -4,6 +4,7 @@ ghost use Rattle.models.specs.Formulas.{start, fast, targeted};
 ghost use Rattle.models.specs.Scaling.{Is};
 
 use crate::factor::Factor;
+use crate::fit_values::FitValues;
 use crate::numbers;
 use braking::Approach;
 use units::Speed;
@@ -11,12 +12,11 @@ use units::Speed;
 const ONE: Factor = Factor { over: 1, under: 1 };
 
 // The deceleration of the brake before its factors, in units.
-pub(crate) fn starting(lambda: u16) -> u64
-    requires { lambda ≤ 160 }
-    ensures value { result ≡ start lambda }
+pub(crate) fn starting(sheet: &FitValues) -> u64
+    ensures value { result ≡ start sheet.now.values.lambda }
     ensures bounded { result ≤ 12000000 }
 {
-    100 * (numbers::LAMBDA_SLOPE * u64::from(lambda) + numbers::LAMBDA_REST)
+    100 * (numbers::LAMBDA_SLOPE * u64::from(sheet.values.lambda) + numbers::LAMBDA_REST)
 }
 
 // The brake fades above VL.
@@ -36,12 +36,11 @@ pub(crate) fn fading(vl: Speed, approach: Approach) -> Factor
 }
 
 // The share of the braking that is counted on.
-pub(crate) fn counted(kr: u16) -> Factor
-    requires { kr ≤ 150 }
-    ensures { Is (ratio kr 100) result }
+pub(crate) fn counted(sheet: &FitValues) -> Factor
+    ensures { Is (ratio sheet.now.values.kr 100) result }
 {
     Factor {
-        over: u64::from(kr),
+        over: u64::from(sheet.values.kr),
         under: 100,
     }
 }

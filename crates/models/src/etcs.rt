@@ -44,8 +44,8 @@ impl Rules for EtcsRules {
 
     // Of the five factors only two are not 1. The cast at the end is proved to lose nothing; `From` goes only to what holds every value.
     fn braking(sheet: &FitValues, approach: Approach) -> Deceleration {
-        let starting = starting(sheet.values.lambda);
-        let shared = counted(sheet.values.kr).scale(starting);
+        let starting = starting(sheet);
+        let shared = counted(sheet).scale(starting);
         let targeted = targeting(approach).scale(shared);
         Deceleration {
             units: targeted as i64,

@@ -1,9 +1,10 @@
 ghost use Rattle.std.specs.Prelude.{◌≡◌, ◌+◌, ◌-◌, ◌*◌, ◌≤◌, if◌then◌else◌};
 ghost use Rattle.models.specs.Formulas.{pipe_length, pipe_time_by};
 
+use crate::fit_values::FitValues;
 use crate::numbers;
 use crate::pipe_time::PipeTime;
-use sheet::{LengthChoice, Service, Values};
+use sheet::{LengthChoice, Service};
 
 // A length of the brake pipe in m, at most 1,000.
 #[derive(Clone, Copy, Debug, PartialEq, Eq, PartialOrd, Ord)]
@@ -14,10 +15,10 @@ pub(crate) struct Pipe {
 
 impl Pipe {
     // The length that the pipe is taken to have.
-    pub(crate) fn of(values: &Values) -> Pipe
-        requires { values.now.length ≤ 1000 }
-        ensures { result.metres ≡ pipe_length values.now.lfren values.now.brake values.now.length }
+    pub(crate) fn of(sheet: &FitValues) -> Pipe
+        ensures { result.metres ≡ pipe_length sheet.now.values.lfren sheet.now.values.brake sheet.now.values.length }
     {
+        let values = sheet.values;
         let metres = match (values.lfren, values.brake) {
             (LengthChoice::Train, _) => u64::from(values.length),
             (LengthChoice::Fixed, Service::Passenger) => numbers::PASSENGER_LENGTH,

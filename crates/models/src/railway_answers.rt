@@ -32,7 +32,7 @@ impl<R: Rules> Railway<R> {
         ensures { result.time.ticks ≡ reaction_time R.name self.now.sheet.values approach.speed.tenths approach.target.tenths }
     {
         let values = self.sheet.values;
-        let pipe = Pipe::of(&values).braking_time(values.brake, R::counts_ep(&self.sheet));
+        let pipe = Pipe::of(&self.sheet).braking_time(values.brake, R::counts_ep(&self.sheet));
         pipe.delayed(R::pipe_share(&values, approach), R::delay())
     }
 

@@ -84,9 +84,9 @@ impl Rules for ScmtRules {
 
     // All five factors. The cast at the end is proved to lose nothing; `From` goes only to what holds every value.
     fn braking(sheet: &FitValues, approach: Approach) -> Deceleration {
-        let starting = starting(sheet.values.lambda);
+        let starting = starting(sheet);
         let faded = fading(sheet.fading_speed(), approach).scale(starting);
-        let shared = counted(sheet.values.kr).scale(faded);
+        let shared = counted(sheet).scale(faded);
         let fast = faster(approach).scale(shared);
         let very_fast = fastest(approach).scale(fast);
         let targeted = targeting(approach).scale(very_fast);
