@@ -1,16 +1,13 @@
 #![tactic(auto)]
 
 // Runs a mission: the standard input holds a train sheet of twelve lines and then call lines; each call line is answered in its turn.
-use calls::{Call, Record};
 use input::read_most;
-use journey::{Journey, run};
+use journey::{Journey, run_in_full_room};
 use models::SheetModel;
 use session::{answers, calls_in, read_lines, sheet_end};
-use sheet::{Admitted, Draft};
+use sheet::Draft;
 use sheet_text::read_admitted;
-use std::alloc::AllocError;
 use std::io;
-use supervision::{BLANK_SECTION, BLANK_TARGET};
 
 // How many bytes of the standard input are read at the most.
 const MOST: u64 = 65_536;
@@ -25,25 +22,13 @@ fn main(rt: HostRuntime) -> io::Result<()> {
         Ok(sheet) => sheet,
         Err(fault) => return println!(rt; "{fault}"),
     };
-    let records = make_calls(&rt, sheet, calls.as_slice())?;
-    for shown in answers(rt.alloc(), lines.as_slice(), records.as_slice())?.as_slice() {
-        println!(rt; "{shown}")?;
-    }
-    Ok(())
-}
-
-// Makes the calls in a mission with the model that the sheet names.
-fn make_calls(
-    rt: &HostRuntime,
-    sheet: Admitted,
-    calls: &[Call],
-) -> Result<Vec<Record>, AllocError> {
     let model = SheetModel::new(&sheet);
-    let mut sections = [BLANK_SECTION; 64];
-    let mut targets = [BLANK_TARGET; 32];
     let Journey {
         records,
         draft: Draft { values: _ },
-    } = run(rt.alloc(), sheet, model, &mut sections, &mut targets, calls);
-    records
+    } = run_in_full_room(rt.alloc(), sheet, model, calls.as_slice());
+    for shown in answers(rt.alloc(), lines.as_slice(), records?.as_slice())?.as_slice() {
+        println!(rt; "{shown}")?;
+    }
+    Ok(())
 }

@@ -1,33 +1,41 @@
 -- Putting an item in moves those from where it is to stand one further, and writes it there.
-use Rattle.std.proofs.Common.{◌≡◌, ℕ, zero, suc, ◌+◌, ◌-◌, ◌<◌, ◌≤◌, true, List, ◌∷◌, ◌++◌, length, get_or, take, drop, set, sym, ap, ◌∙◌, subst, add-one, arith}
-use Rattle.std.specs.List.{AllByRecursion, copy_within, insert}
+use Rattle.std.proofs.Common.{◌≡◌, ℕ, zero, suc, ◌+◌, ◌-◌, ◌<◌, ◌≤◌, true, List, [], ◌∷◌, ◌++◌, length, get_or, take, drop, set, sym, ap, ◌∙◌, subst, arith}
+use borrow.Rule.Slice.PartMut.{mid_of, post_of, put_mid}
+use Rattle.std.specs.List.{AllByRecursion, insert, slice_rotate_right}
 use Rattle.std.proofs.ByRecursion.{All-from_get_or}
-use Rattle.std.proofs.lemmas.List.{append_assoc, drop_at, get_or-drop, length-append, length-drop, length-take-le, set_split, take-append-drop, take-append-le, take_at, take-take}
-use Rattle.std.proofs.lemmas.List.Edits.{length-insert, length-paste}
-use Rattle.std.proofs.lemmas.Slice.{between_is}
+use Rattle.std.proofs.lemmas.List.{append_assoc, append-nil, drop_all, drop_at, get_or-drop, length-append, length-drop, length-take-le, set_split, take-append-drop, take_at, take-take}
+use Rattle.std.proofs.lemmas.List.Edits.{length-insert}
+use Rattle.std.proofs.lemmas.Slice.{between_is, take-put_mid_below}
 use Rattle.place_list.specs.Insertion.{PutIn}
 use Rattle.place_list.specs.Order.{ascends}
 use Rattle.place_list.specs.Position.{GreaterFrom, NotGreaterBefore}
 use Rattle.place_list.proofs.Ascents.{all_up_to, climbs}
 
--- The items from the index i on stand one further, and x is written there: the items then, and the rest of the memory.
-pub put_over : {X : Type 0} (x : X) (n i : ℕ) (old : List X) → i ≤ n → n < length old → set (copy_within old i n (i + 1)) i x ≡ insert (take n old) i x ++ drop (n + 1) old
-put_over {X} x n i old l m =
-    let moved = copy_within old i n (i + 1) in
-    let tail = take (n - i) (drop i old) ++ drop (i + 1 + (n - i)) old in
-    let split : moved ≡ take (i + 1) old ++ tail = append_assoc (take (i + 1) old) (take (n - i) (drop i old)) (drop (i + 1 + (n - i)) old) in
-    let some : length (drop i old) ≡ length old - i = length-drop i old in
-    let one : length (take (i + 1) old) ≡ i + 1 = length-take-le (i + 1) old (omega arith) in
-    let same : length moved ≡ length old = length-paste old (i + 1) (drop i old) (n - i) (omega arith) (omega arith) in
-    let front : take i moved ≡ take i (take n old) =
-    ap (take i) split ∙ take-append-le i (take (i + 1) old) tail (omega arith) ∙ (take-take i (i + 1) old (omega arith) ∙ sym (take-take i n old l)) in
-    let count : i + 1 + (n - i) ≡ n + 1 = omega arith in
-    let back : drop (suc i) moved ≡ drop i (take n old) ++ drop (n + 1) old =
-    ap (λ k. drop k moved) (sym (add-one i)) ∙ (ap (drop (i + 1)) split ∙ drop_at (take (i + 1) old) tail (i + 1) one ∙ (ap (λ xs. xs ++ drop (i + 1 + (n - i)) old) (between_is old i n) ∙ ap (λ k. drop i (take n old) ++ drop k old) count)) in
-    set_split moved i x (omega arith)
-    ∙ (ap (λ (s : List X). s ++ x ∷ drop (suc i) moved) front
-    ∙ (ap (λ (s : List X). take i (take n old) ++ x ∷ s) back
-    ∙ sym (append_assoc (take i (take n old)) (x ∷ drop i (take n old)) (drop (n + 1) old))))
+-- The items from the index a on are moved on by one, the last over the first of them, and x is written there.
+pub put_over : {X : Type 0} (x : X) (a : ℕ) (xs ys : List X) → a < length xs → ys ≡ slice_rotate_right (mid_of a (length xs - a) xs) 1 → set (put_mid a (length xs - a) xs ys) a x ≡ insert (take (length xs - 1) xs) a x
+put_over {X} x a xs ys l e =
+    let n = length xs in
+    let m = mid_of a (n - a) xs in
+    let post = post_of a (n - a) xs in
+    let moved = put_mid a (n - a) xs ys in
+    let some : length (drop a xs) ≡ n - a = length-drop a xs in
+    let all : length m ≡ n - a = length-take-le (n - a) (drop a xs) (omega arith) in
+    let first = take a xs ++ drop (length m - 1) m in
+    let rest = take (length m - 1) m in
+    let split : moved ≡ first ++ (rest ++ post) =
+    ap (λ (s : List X). take a xs ++ (s ++ post)) e ∙ (ap (λ (s : List X). take a xs ++ s) (append_assoc (drop (length m - 1) m) rest post) ∙ sym (append_assoc (take a xs) (drop (length m - 1) m) (rest ++ post))) in
+    let before : length (take a xs) ≡ a = length-take-le a xs (omega arith) in
+    let last : length (drop (length m - 1) m) ≡ length m - (length m - 1) = length-drop (length m - 1) m in
+    let one : length first ≡ suc a = length-append (take a xs) (drop (length m - 1) m) ∙ omega arith in
+    let whole : length moved ≡ suc a + length (rest ++ post) = ap length split ∙ (length-append first (rest ++ post) ∙ omega arith) in
+    let none : post ≡ [] = drop_all (n - a) (drop a xs) (omega arith) in
+    let count : length m - 1 ≡ n - 1 - a = omega arith in
+    let back : drop (suc a) moved ≡ drop a (take (n - 1) xs) =
+    ap (drop (suc a)) split ∙ (drop_at first (rest ++ post) (suc a) one ∙ (ap (λ (s : List X). rest ++ s) none ∙ (append-nil rest
+    ∙ (ap (λ k. take k m) count ∙ (take-take (n - 1 - a) (n - a) (drop a xs) (omega arith) ∙ between_is xs a (n - 1)))))) in
+    let front : take a moved ≡ take a (take (n - 1) xs) = take-put_mid_below a (n - a) xs ys a (omega arith) (omega arith) ∙ sym (take-take a (n - 1) xs (omega arith)) in
+    set_split moved a x (omega arith)
+    ∙ (ap (λ (s : List X). s ++ x ∷ drop (suc a) moved) front ∙ ap (λ (s : List X). take a (take (n - 1) xs) ++ x ∷ s) back)
 
 -- The items are one more then.
 length_put : {X : Type 0} (x : X) (n i : ℕ) (old : List X) → i ≤ n → n ≤ length old → length (insert (take n old) i x) ≡ n + 1

@@ -7,6 +7,11 @@ use place_list::{Keyed, PlaceList, Placed};
 use units::{Distance, Grade, Speed};
 use zones::Target;
 
+// How many sections and targets a mission's lists hold at most.
+pub const MOST_SECTIONS: usize = 64;
+
+pub const MOST_TARGETS: usize = 32;
+
 // What lent memory may hold before an item is put there.
 pub const BLANK_SECTION: Placed<Grade> = Placed {
     place: Distance { millimetres: 0 },
@@ -41,31 +46,10 @@ impl<'a> Lists<'a> {
         ensures targets_lent { loan_of result.targets ≡ targets.entry.ghost_name }
     {
         Lists {
-            sections: new_sections(sections),
-            targets: new_targets(targets),
+            sections: PlaceList::new(sections, MOST_SECTIONS),
+            targets: PlaceList::new(targets, MOST_TARGETS),
         }
     }
-}
-
-// A mission's list of sections, empty, over the caller's memory: at most 64, fewer in shorter memory.
-// What this has in common with `new_targets` is `PlaceList::new`; each adds the number that its rule gives.
-pub fn new_sections<'a>(memory: &'a mut [Placed<Grade>]) -> PlaceList<'a, Grade>
-    ensures empty { sections_of result ≡ [] }
-    ensures room { room result ≡ min 64 (length memory.old) }
-    ensures memory { memory_of result ≡ memory.old }
-    ensures lent { loan_of result ≡ memory.entry.ghost_name }
-{
-    PlaceList::new(memory, 64)
-}
-
-// A mission's list of targets, empty, over the caller's memory: at most 32, fewer in shorter memory.
-pub fn new_targets<'a>(memory: &'a mut [Placed<Target>]) -> PlaceList<'a, Target>
-    ensures empty { targets_of result ≡ [] }
-    ensures room { room result ≡ min 32 (length memory.old) }
-    ensures memory { memory_of result ≡ memory.old }
-    ensures lent { loan_of result ≡ memory.entry.ghost_name }
-{
-    PlaceList::new(memory, 32)
 }
 
 // Adds a section, unless one begins at the place or no more fit.

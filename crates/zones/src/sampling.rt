@@ -44,7 +44,7 @@ struct Train<'a, M: BrakingModel> {
 }
 
 impl<'a, M: BrakingModel> Train<'a, M> {
-    // The largest zone of the targets: a loop with the running maximum, as the rule for a sample has it.
+    // The largest zone of the targets. A loop over them with the running maximum is a form asked for from the start of the project.
     fn largest_zone(&self, targets: &[Placed<Target>]) -> Zone
         ensures { result ≡ largest_zone (M.BrakingModel.meaning self.now.model.now) (sections_in self.now.sections.now) self.now.front.millimetres self.now.speed.tenths (targets_in targets.now) }
     {

@@ -11,12 +11,14 @@ impl<'a, T: Copy> PlaceList<'a, T> {
     pub fn find_place(&self, place: Distance) -> Option<usize>
         ensures { Found place_of place.millimetres (sequence self.now) result }
     {
-        self.items().iter().position(|x| x.place == place)
+        let at = self.items().partition_point(|x| x.place < place);
+        let first = self.items().get(at)?;
+        (first.place == place).then_some(at)
     }
 }
 
 impl<'a, T: Copy + Keyed> PlaceList<'a, T> {
-    // The index of the first item with the key.
+    // The index of the first item with the key. The order is by place, so it is looked for from the start.
     pub fn find_key(&self, key: u64) -> Option<usize>
         ensures { Found (λ y. T.Keyed.number y.item) key (sequence self.now) result }
     {

@@ -1,4 +1,4 @@
-ghost use Rattle.std.specs.Prelude.{◌≡◌, ◌+◌, ◌<◌, ◌≤◌, ◌++◌, drop, length, take, MatchResult, OnOk};
+ghost use Rattle.std.specs.Prelude.{◌≡◌, ◌+◌, ◌-◌, ◌<◌, ◌≤◌, length, take, MatchResult, OnOk};
 ghost use Rattle.std.specs.List.{insert};
 ghost use Rattle.place_list.specs.declared.refusal.Refusal.TheVariants.{Full};
 ghost use Rattle.place_list.specs.Insertion.{ComesLast, PutIn, placed_in};
@@ -48,17 +48,16 @@ impl<'a, T: Copy> PlaceList<'a, T> {
         requires behind { GreaterFrom place_of (place_of new) at (sequence self.old) }
         ensures { Inserted new self.old self.new }
     {
-        put_among(self.memory, self.len, at, new);
+        put_in(&mut self.memory[..=self.len], at, new);
         self.len += 1;
     }
 }
 
-// Puts an item in at the index `at` among the first `len`, over the one behind them.
-fn put_among<T: Copy>(memory: &mut [T], len: usize, at: usize, new: T)
-    requires upto { at ≤ len }
-    requires fits { len < length memory.old }
-    ensures { memory.new ≡ insert (take len memory.old) at new ++ drop (len + 1) memory.old }
+// Puts an item in at the index `at`, over the last one.
+fn put_in<T: Copy>(items: &mut [T], at: usize, new: T)
+    requires { at < length items.old }
+    ensures { items.new ≡ insert (take (length items.old - 1) items.old) at new }
 {
-    memory.copy_within(at..len, at + 1);
-    memory[at] = new;
+    items[at..].rotate_right(1);
+    items[at] = new;
 }

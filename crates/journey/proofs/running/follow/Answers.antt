@@ -1,12 +1,8 @@
-use Rattle.std.proofs.Common.{◌≡◌, ◌+◌, List, [], ◌∷◌, ◌++◌, get_or, take, pos, vec_items, refl, ap, ◌∙◌}
-use Rattle.std.proofs.lemmas.List.{take_all, take_more}
+use Rattle.std.proofs.Common.{◌≡◌, ◌+◌, [], ◌∷◌, ◌++◌, get_or, take, pos, vec_items, refl}
+use Rattle.std.proofs.lemmas.List.{take_more}
 use Rattle.std.proofs.lemmas.Slice.{pushed}
-use Rattle.std.proofs.lemmas.Result.{err_from_is_err_and}
-use Rattle.calls.specs.declared.call.Call.{Call}
 use Rattle.calls.specs.declared.call.Call.TheVariants.{Slope}
-use Rattle.history.specs.Runs.{run}
-use Rattle.supervision.specs.Missions.{eps_of, state_of}
-use Rattle.journey.proofs.Follows.{Followed, follow_more, follow_start}
+use Rattle.journey.proofs.Follows.{Followed, follow_more}
 use Rattle.journey.proofs.running.follow.Goals as goal
 
 pub loop-call-preserved : goal.loop-call-preserved

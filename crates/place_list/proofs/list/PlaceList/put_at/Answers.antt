@@ -1,14 +1,25 @@
-use Rattle.std.proofs.Common.{◌≡◌, ◌+◌, ◌<◌, ◌≤◌, min, length, take, refl, arith}
-use Rattle.std.proofs.lemmas.List.{length-take-le}
+use Rattle.std.proofs.Common.{◌≡◌, ◌+◌, ◌-◌, ◌<◌, ◌≤◌, ◌++◌, ◌∙◌, min, length, take, drop, refl, ap, arith}
+use Rattle.std.proofs.lemmas.List.{length-take-le, take-take}
+use Rattle.std.specs.List.{insert}
 use Rattle.place_list.specs.Insertion.{PutIn}
 use Rattle.place_list.specs.Places.{place_of}
 use Rattle.place_list.proofs.Inserts.{first_put, put_in, rest_put, whole_put}
 use Rattle.place_list.proofs.Members.{one_more}
 use Rattle.place_list.proofs.Splits.{ascends_put_in, comes_last, put_in_is}
 use Rattle.place_list.proofs.list.PlaceList.put_at.Goals as goal
-use Rattle.place_list.proofs.list.PlaceList.put_at.Goals.{After-put_among, at-returns}
+use Rattle.place_list.proofs.list.PlaceList.put_at.Goals.{After-put_in, at-invariant_of-self, at-returns}
 
-stands : (g : _) (c : After-put_among g) → PutIn place_of c.args.new (take c.args.self.now.len c.args.self.now.memory.now) (take (c.args.self.now.len + 1) c.put_among.new.memory)
+written : (g : _) (c : After-put_in g) → c.put_in.new.items ++ drop (c.args.self.now.len + 1) c.args.self.now.memory.now ≡ insert (take c.args.self.now.len c.args.self.now.memory.now) c.args.at c.args.new ++ drop (c.args.self.now.len + 1) c.args.self.now.memory.now
+written g c =
+    let old = c.args.self.now.memory.now in
+    let n = c.args.self.now.len in
+    let fits : n < min c.args.self.now.most (length old) = c.requires.fits in
+    let part : length (take (n + 1) old) ≡ n + 1 = length-take-le (n + 1) old (omega arith) in
+    let count : length (take (n + 1) old) - 1 ≡ n = omega arith in
+    ap (λ xs. xs ++ drop (n + 1) old) (c.put_in.ensures
+    ∙ (ap (λ k. insert (take k (take (n + 1) old)) c.args.at c.args.new) count ∙ ap (λ xs. insert xs c.args.at c.args.new) (take-take n (n + 1) old (omega arith))))
+
+stands : (g : _) (c : After-put_in g) → PutIn place_of c.args.new (take c.args.self.now.len c.args.self.now.memory.now) (take (c.args.self.now.len + 1) (c.put_in.new.items ++ drop (c.args.self.now.len + 1) c.args.self.now.memory.now))
 stands g c =
     let old = c.args.self.now.memory.now in
     let n = c.args.self.now.len in
@@ -16,7 +27,7 @@ stands g c =
     let whole : length (take n old) ≡ n = length-take-le n old c.args.self.now.within in
     let upto : c.args.at ≤ length (take n old) = c.requires.upto in
     put_in place_of c.args.new c.args.at (take n old) _ c.requires.upto c.requires.before c.requires.behind c.args.self.now.ascending
-    (first_put c.args.new n c.args.at old c.put_among.new.memory (omega arith) (omega arith) c.put_among.ensures)
+    (first_put c.args.new n c.args.at old (c.put_in.new.items ++ drop (n + 1) old) (omega arith) (omega arith) (written g c))
 
 pub invariant_of-self : goal.invariant_of-self
 invariant_of-self g c =
@@ -25,11 +36,11 @@ invariant_of-self g c =
     let fits : n < min c.args.self.now.most (length old) = c.requires.fits in
     let whole : length (take n old) ≡ n = length-take-le n old c.args.self.now.within in
     let upto : c.args.at ≤ length (take n old) = c.requires.upto in
-    let same : length c.put_among.new.memory ≡ length old = whole_put c.args.new n c.args.at old c.put_among.new.memory (omega arith) (omega arith) c.put_among.ensures in
+    let same : length (c.put_in.new.items ++ drop (n + 1) old) ≡ length old = whole_put c.args.new n c.args.at old (c.put_in.new.items ++ drop (n + 1) old) (omega arith) (omega arith) (written g (at-invariant_of-self g c).After-put_in) in
     record {
       within = omega arith;
       allowed = omega arith;
-      ascending = ascends_put_in place_of c.args.new _ _ (stands g c) c.args.self.now.ascending;
+      ascending = ascends_put_in place_of c.args.new _ _ (stands g (at-invariant_of-self g c).After-put_in) c.args.self.now.ascending;
     }
 
 pub returns : goal.returns
@@ -41,8 +52,8 @@ returns g c =
     let fits : n < min c.args.self.now.most (length old) = c.requires.fits in
     let whole : length (take n old) ≡ n = length-take-le n old c.args.self.now.within in
     let upto : at ≤ length (take n old) = c.requires.upto in
-    let same : length c.put_among.new.memory ≡ length old = whole_put x n at old c.put_among.new.memory (omega arith) (omega arith) c.put_among.ensures in
-    let put = stands g (at-returns g c).After-put_among in
+    let same : length (c.put_in.new.items ++ drop (n + 1) old) ≡ length old = whole_put x n at old (c.put_in.new.items ++ drop (n + 1) old) (omega arith) (omega arith) (written g (at-returns g c).After-put_in) in
+    let put = stands g (at-returns g c).After-put_in in
     record {
       result = put_in_is place_of x _ _ put;
       stands = put;
@@ -53,6 +64,6 @@ returns g c =
         most_same = refl;
         length_same = same;
         loan_same = refl;
-        rest_same = rest_put x n at old c.put_among.new.memory (omega arith) (omega arith) c.put_among.ensures;
+        rest_same = rest_put x n at old (c.put_in.new.items ++ drop (n + 1) old) (omega arith) (omega arith) (written g (at-returns g c).After-put_in);
       };
     }
