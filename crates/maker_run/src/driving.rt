@@ -6,15 +6,9 @@ ghost use Rattle.constant_brake.specs.Formulas.{meaning_of};
 
 use calls::Call;
 use constant_brake::ConstantBrake;
-use journey::{Journey, run};
+use journey::{Journey, run_in_full_room};
 use sheet::Admitted;
 use std::alloc::Global;
-use supervision::{BLANK_SECTION, BLANK_TARGET};
-
-// How many sections and targets memory is lent for: as many as a mission uses.
-const SECTION_ROOM: usize = 64;
-
-const TARGET_ROOM: usize = 32;
 
 // Opens the sheet with the brake, makes the calls and closes it. The mission's law holds for this brake, by the call's own contract.
 pub(crate) fn drive(heap: Global, sheet: Admitted, brake: ConstantBrake, calls: &[Call]) -> Journey
@@ -24,7 +18,5 @@ pub(crate) fn drive(heap: Global, sheet: Admitted, brake: ConstantBrake, calls: 
     ensures grades { IfOk result.records (λ v. GivesOneGrade v.items) }
     ensures draft { result.draft.values ≡ sheet.values }
 {
-    let mut sections = [BLANK_SECTION; SECTION_ROOM];
-    let mut targets = [BLANK_TARGET; TARGET_ROOM];
-    run(heap, sheet, brake, &mut sections, &mut targets, calls)
+    run_in_full_room(heap, sheet, brake, calls)
 }

@@ -53,8 +53,5 @@ fn show_answer(rt: &HostRuntime, record: Record) -> io::Result<()> {
     let phase = record.phase;
     let traction = if phase.cuts_traction() { "cut" } else { "on" };
     let brake = if phase.applies_brake() { "on" } else { "off" };
-    println!(rt;
-        "{} traction={traction} brake={brake}",
-        Shown::from(record)
-    )
+    println!(rt; "{} traction={traction} brake={brake}", Shown::from(record))
 }

@@ -1,7 +1,6 @@
 use Rattle.std.proofs.Common.{◌≤◌, sym, ◌∙◌, arith}
 use Rattle.std.proofs.lemmas.Int.{ints}
 use Rattle.units.specs.Fractions.{ratio}
-use Rattle.sheet.proofs.Limits.{limits}
 use Rattle.models.specs.Formulas.{start, factors, targeted}
 use Rattle.models.proofs.Chains.{scaled_is, two_of_five, small_cast}
 use Rattle.models.proofs.etcs.EtcsRulesRules.braking.Goals as goal

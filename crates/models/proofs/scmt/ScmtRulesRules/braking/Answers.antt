@@ -1,7 +1,6 @@
 use Rattle.std.proofs.Common.{ℕ, ◌-◌, ◌*◌, ◌≤◌, cond, ltb, subst, arith}
 use Rattle.std.proofs.lemmas.Int.{ints}
 use Rattle.units.specs.Fractions.{whole, ratio}
-use Rattle.sheet.proofs.Limits.{limits}
 use Rattle.models.specs.Formulas.{fading, factors}
 use Rattle.models.specs.Scaling.{Is}
 use Rattle.models.specs.Vl.{vl}
