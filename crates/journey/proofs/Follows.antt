@@ -22,9 +22,6 @@ pub record Followed {M : Type 0} (meaning : M → Meaning) (first last : Mission
   pub state : state_of last ls' ≡ state_after (eps_of first) (meaning first.model) (state_of first ls) cs
   pub train : SameTrain first last
 
-pub follow_start : {M : Type 0} (meaning : M → Meaning) (m : Mission M) (ls : Lists) (rs : List Record) → rs ≡ [] → Followed meaning m m ls ls [] rs
-follow_start meaning m ls rs e = record { records = e; state = refl; train = record { sheet = refl; model = refl } }
-
 module _ {M : Type 0} (meaning : M → Meaning) (first last next : Mission M) (ls ls' ls'' : Lists) (cs : List Call) (rs : List Record) (c : Call) (r : Record) where
   -- the step from the last mission is the step from the state after the calls so far
   same_step : Followed meaning first last ls ls' cs rs →

@@ -43,6 +43,7 @@ fn show_mission(rt: &HostRuntime, text: &[u8]) -> io::Result<()> {
 
 // Opens the mission, makes the calls and closes it.
 fn show_calls(rt: &HostRuntime, sheet: Admitted, text: &[u8]) -> io::Result<()> {
+    // More memory than a mission's lists use, so that their limits show.
     let mut section_memory = [BLANK_SECTION; 70];
     let mut target_memory = [BLANK_TARGET; 40];
     let mut lists = Lists::new(&mut section_memory, &mut target_memory);

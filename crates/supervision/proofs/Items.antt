@@ -1,23 +1,21 @@
 -- What is found, put in and taken out of a list, seen as sections or targets over plain numbers.
-use Rattle.std.proofs.Common.{◌≡◌, ℕ, zero, suc, ◌+◌, ◌-◌, ◌<◌, Bool, true, false, cond, not, ◌||◌, eqb, ltb, List, [], ◌∷◌, map, ℤ, Some, None, Ok, Err, Option, Result, MatchResult, IsErrAnd, OnOk, is_some, refl, ap, ◌∙◌, inl, inr, arith}
+use Rattle.std.proofs.Common.{◌≡◌, ℕ, zero, suc, Bool, true, false, cond, not, ◌||◌, eqb, ltb, List, [], ◌∷◌, map, Some, None, Ok, Err, Option, Result, is_some, refl, ap, ◌∙◌, sym, subst, inl, inr, arith}
 use Rattle.std.specs.List.{remove}
 use Rattle.std.proofs.lemmas.Bool.{eq-eqb, ne_eqb}
 use Rattle.place_list.specs.Finding.{FirstAt, Found}
 use Rattle.place_list.specs.Insertion.{placed_in}
 use Rattle.place_list.specs.Places.{place_of}
-use Rattle.place_list.specs.Sequence.{Kept, Unaltered, room, sequence}
+use Rattle.place_list.specs.Sequence.{Kept, Unaltered, sequence}
 use Rattle.place_list.specs.declared.list.PlaceList.{PlaceList}
 use Rattle.place_list.specs.declared.placed.Placed.{Placed}
 use Rattle.units.specs.declared.quantities.Grade.{Grade}
-use Rattle.place_list.specs.declared.refusal.Refusal.{Refusal as ListRefusal}
-use Rattle.place_list.specs.declared.refusal.Refusal.TheVariants.{Full as NoRoom}
 use Rattle.calls.specs.declared.refusal.Refusal.{Refusal}
-use Rattle.calls.specs.declared.refusal.Refusal.TheVariants.{Taken, Full}
+use Rattle.calls.specs.declared.refusal.Refusal.TheVariants.{Taken}
 use Rattle.history.specs.History.{Section, Target}
 use Rattle.history.specs.Step.{begins_at, first, ground_for, marked, numbered, without}
 use Rattle.zones.specs.Items.{section_of, target_of}
 use Rattle.zones.specs.declared.target.Target.{Target as TargetItem}
-use Rattle.supervision.specs.Lists.{SectionAdded, TargetAdded, section_grounds, sections_of, target_grounds, targets_of}
+use Rattle.supervision.specs.Lists.{Added, SectionAdded, TargetAdded, sections_of, targets_of}
 
 -- The same by the items' own marks as by those of what they stand for.
 pub marked_map : {X Y : Type 0} (f : X → Y) (mark : Y → ℕ) (n : ℕ) (xs : List X) → marked mark n (map f xs) ≡ marked (λ (x : X). mark (f x)) n xs
@@ -54,23 +52,10 @@ removed_without f n (x ∷ xs) (suc i) h =
     let e : eqb (f x).number n ≡ false = ne_eqb (f x).number n (h.none_before x 0 (omega arith)) in
     rw e (ap (λ l. f x ∷ l) (removed_without f n xs i (rest_first (λ x. (f x).number) n x xs i h)))
 
--- Whether an item with the mark is found.
-pub found_some : {X : Type 0} (mark : X → ℕ) (n : ℕ) (xs : List X) (r : Option ℕ) → Found mark n xs r → is_some r ≡ true → (i : ℕ) × FirstAt mark n xs i
-found_some mark n xs (Some i) h e = (i, h)
-found_some mark n xs None h e = let z : ◌≡◌ {A = ℕ} 0 1 = cc in absurd (omega arith)
-
-pub found_none : {X : Type 0} (mark : X → ℕ) (n : ℕ) (xs : List X) (r : Option ℕ) → Found mark n xs r → is_some r ≡ false → Found mark n xs None
-found_none mark n xs (Some i) h e = let z : ◌≡◌ {A = ℕ} 0 1 = cc in absurd (omega arith)
-found_none mark n xs None h e = h
-
--- The one refusal of a list as that of a call.
-pub full_for_call : {X E : Type 0} (r : Result X E) (r' : Result X Refusal) (Q : E → Refusal → Type 0) →
-    MatchResult r (λ x. r' ≡ Ok x) (λ e. IsErrAnd r' (Q e)) → ((e : E) (z : Refusal) → Q e z → z ≡ Full) → MatchResult r (λ x. r' ≡ Ok x) (λ e. r' ≡ Err Full)
-full_for_call (Ok x) r' Q t s = t
-full_for_call (Err e) (Ok y) Q t s = absurd t
-full_for_call (Err e) (Err z) Q t s = ap Err (s e z t)
-
--- What stands in the way, or does not, in the one list and the other.
+-- An item is found with the mark exactly where one has it.
+pub found_marked : {X : Type 0} (mark : X → ℕ) (n : ℕ) (xs : List X) (r : Option ℕ) → Found mark n xs r → marked mark n xs ≡ is_some r
+found_marked mark n xs (Some i) h = first_marked mark n xs i h
+found_marked mark n xs None h = none_marked mark n xs h
 
 pub same_list : {T : Type 0} (l : PlaceList T) → Unaltered l l
 same_list l = record { sequence_same = refl; room_same = refl; memory_same = refl }
@@ -78,69 +63,38 @@ same_list l = record { sequence_same = refl; room_same = refl; memory_same = ref
 pub kept_list : {T : Type 0} (l : PlaceList T) → Kept l l
 kept_list l = record { most_same = refl; length_same = refl; loan_same = refl; rest_same = refl }
 
-module _ (l : PlaceList Grade) (p : ℕ) where
-  begins : (b : Bool) → marked place_of p (sequence l) ≡ b → begins_at p (sections_of l) ≡ b
-  begins b e = marked_map section_of (λ (x : Section). x.place) p (sequence l) ∙ e
+-- What adding an item leaves, where it is known by other words whether one stands in its way.
+pub added_as : {T : Type 0} (before after : PlaceList T) (x : Placed T) (b c : Bool) (r : Result (Unit {0}) Refusal) → c ≡ b → Added b x before after r → Added c x before after r
+added_as before after x b c r e w = subst (λ (d : Bool). Added d x before after r) (sym e) w
 
-  pub section_taken : (i : ℕ) → FirstAt place_of p (sequence l) i → first (section_grounds p l) ≡ Some Taken
-  section_taken i h = let b : begins_at p (sections_of l) ≡ true = begins true (first_marked place_of p (sequence l) i h) in rw b
+section_by : (before after : PlaceList Grade) (x : Placed Grade) (r : Result (Unit {0}) Refusal) →
+    Added (begins_at x.place.millimetres (sections_of before)) x before after r → SectionAdded x.place.millimetres x.item.thousandths before after r
+section_by before after x (Ok u) w = (w.0, ap (map section_of) w.1 ∙ map_placed section_of (λ (y : Section). y.place) x (sequence before), w.2, w.3)
+section_by before after x (Err e) w = w
 
-  pub section_full : Found place_of p (sequence l) None → room l ≡ 0 → first (section_grounds p l) ≡ Some Full
-  section_full h e =
-      let b : begins_at p (sections_of l) ≡ false = begins false (none_marked place_of p (sequence l) h) in
-      let r : eqb (room l) 0 ≡ true = eq-eqb (room l) 0 e in
-      rw (b, r)
+target_by : (before after : PlaceList TargetItem) (x : Placed TargetItem) (r : Result (Unit {0}) Refusal) →
+    Added (numbered x.item.number (targets_of before)) x before after r → TargetAdded x.item.number x.place.millimetres x.item.speed.tenths before after r
+target_by before after x (Ok u) w = (w.0, ap (map target_of) w.1 ∙ map_placed target_of (λ (t : Target). t.place) x (sequence before), w.2, w.3)
+target_by before after x (Err e) w = w
 
-  pub section_free : Found place_of p (sequence l) None → 0 < room l → first (section_grounds p l) ≡ None
-  section_free h e =
-      let b : begins_at p (sections_of l) ≡ false = begins false (none_marked place_of p (sequence l) h) in
-      let r : eqb (room l) 0 ≡ false = ne_eqb (room l) 0 (λ k. omega arith) in
-      rw (b, r)
-
-pub section_put : (before after : PlaceList Grade) (p : ℕ) (g : ℤ) →
-    sequence after ≡ placed_in place_of (record { place = record { millimetres = p }; item = record { thousandths = g } }) (sequence before) →
-    sections_of after ≡ placed_in (λ (x : Section). x.place) (record { place = p; grade = g }) (sections_of before)
-section_put before after p g e =
-    ap (map section_of) e ∙ map_placed section_of (λ (x : Section). x.place) (record { place = record { millimetres = p }; item = record { thousandths = g } }) (sequence before)
-
-pub room_less : (before after : ℕ) → after + 1 ≡ before → after ≡ before - 1
-room_less before after e = omega arith
-
--- What an insert of a section leaves.
-pub section_added : (before after : PlaceList Grade) (p : ℕ) (g : ℤ) (r : Result (Unit {0}) ListRefusal) (r' : Result (Unit {0}) Refusal) → Found place_of p (sequence before) None →
-    MatchResult r (λ _. 0 < room before) (λ e. (e ≡ NoRoom) × (room before ≡ 0)) →
-    MatchResult r (λ _. sequence after ≡ placed_in place_of (record { place = record { millimetres = p }; item = record { thousandths = g } }) (sequence before)) (λ _. Unaltered before after) →
-    OnOk r (room after + 1 ≡ room before) → Kept before after → MatchResult r (λ x. r' ≡ Ok x) (λ e. r' ≡ Err Full) → SectionAdded p g before after r'
-section_added before after p g (Ok x) r' none fits put less kept is = rw is (section_free before p none fits, section_put before after p g put, room_less (room before) (room after) less, kept)
-section_added before after p g (Err e) r' none full same less kept is = rw is (section_full before p none full.1, same, kept)
-
-pub target_put : (before after : PlaceList TargetItem) (n p v : ℕ) →
-    sequence after ≡ placed_in place_of (record { place = record { millimetres = p }; item = record { number = n; speed = record { tenths = v } } }) (sequence before) →
-    targets_of after ≡ placed_in (λ (t : Target). t.place) (record { number = n; place = p; speed = v }) (targets_of before)
-target_put before after n p v e =
-    ap (map target_of) e ∙ map_placed target_of (λ (t : Target). t.place) (record { place = record { millimetres = p }; item = record { number = n; speed = record { tenths = v } } }) (sequence before)
+-- So it is with a section.
+pub section_added : (before after : PlaceList Grade) (x : Placed Grade) (found : Option ℕ) (r : Result (Unit {0}) Refusal) → Found place_of x.place.millimetres (sequence before) found →
+    Added (is_some found) x before after r → SectionAdded x.place.millimetres x.item.thousandths before after r
+section_added before after x found r f w =
+    section_by before after x r (added_as before after x (is_some found) _ r (marked_map section_of (λ (y : Section). y.place) x.place.millimetres (sequence before) ∙ found_marked place_of x.place.millimetres (sequence before) found f) w)
 
 abbrev pub number_of : Placed TargetItem → ℕ
 number_of x = x.item.number
 
+-- And with a target.
+pub target_added : (before after : PlaceList TargetItem) (x : Placed TargetItem) (found : Option ℕ) (r : Result (Unit {0}) Refusal) → Found number_of x.item.number (sequence before) found →
+    Added (is_some found) x before after r → TargetAdded x.item.number x.place.millimetres x.item.speed.tenths before after r
+target_added before after x found r f w =
+    target_by before after x r (added_as before after x (is_some found) _ r (marked_map target_of (λ (t : Target). t.number) x.item.number (sequence before) ∙ found_marked number_of x.item.number (sequence before) found f) w)
+
 module _ (l : PlaceList TargetItem) (n : ℕ) where
   numbers : (b : Bool) → marked number_of n (sequence l) ≡ b → numbered n (targets_of l) ≡ b
   numbers b e = marked_map target_of (λ (t : Target). t.number) n (sequence l) ∙ e
-
-  pub target_taken : (i : ℕ) → FirstAt number_of n (sequence l) i → first (target_grounds n l) ≡ Some Taken
-  target_taken i h = let b : numbered n (targets_of l) ≡ true = numbers true (first_marked number_of n (sequence l) i h) in rw b
-
-  pub target_full : Found number_of n (sequence l) None → room l ≡ 0 → first (target_grounds n l) ≡ Some Full
-  target_full h e =
-      let b : numbered n (targets_of l) ≡ false = numbers false (none_marked number_of n (sequence l) h) in
-      let r : eqb (room l) 0 ≡ true = eq-eqb (room l) 0 e in
-      rw (b, r)
-
-  pub target_free : Found number_of n (sequence l) None → 0 < room l → first (target_grounds n l) ≡ None
-  target_free h e =
-      let b : numbered n (targets_of l) ≡ false = numbers false (none_marked number_of n (sequence l) h) in
-      let r : eqb (room l) 0 ≡ false = ne_eqb (room l) 0 (λ k. omega arith) in
-      rw (b, r)
 
   pub target_stands : (i : ℕ) → FirstAt number_of n (sequence l) i → first (ground_for (not (numbered n (targets_of l))) Taken ∷ []) ≡ None
   target_stands i h = let b : numbered n (targets_of l) ≡ true = numbers true (first_marked number_of n (sequence l) i h) in rw b
@@ -150,11 +104,3 @@ module _ (l : PlaceList TargetItem) (n : ℕ) where
 
 pub target_out : (before after : PlaceList TargetItem) (n i : ℕ) → FirstAt number_of n (sequence before) i → sequence after ≡ remove (sequence before) i → targets_of after ≡ without n (targets_of before)
 target_out before after n i h e = ap (map target_of) e ∙ removed_without target_of n (sequence before) i h
-
--- What an insert of a target leaves.
-pub target_added : (before after : PlaceList TargetItem) (n p v : ℕ) (r : Result (Unit {0}) ListRefusal) (r' : Result (Unit {0}) Refusal) → Found number_of n (sequence before) None →
-    MatchResult r (λ _. 0 < room before) (λ e. (e ≡ NoRoom) × (room before ≡ 0)) →
-    MatchResult r (λ _. sequence after ≡ placed_in place_of (record { place = record { millimetres = p }; item = record { number = n; speed = record { tenths = v } } }) (sequence before)) (λ _. Unaltered before after) →
-    OnOk r (room after + 1 ≡ room before) → Kept before after → MatchResult r (λ x. r' ≡ Ok x) (λ e. r' ≡ Err Full) → TargetAdded n p v before after r'
-target_added before after n p v (Ok x) r' none fits put less kept is = rw is (target_free before n none fits, target_put before after n p v put, room_less (room before) (room after) less, kept)
-target_added before after n p v (Err e) r' none full same less kept is = rw is (target_full before n none full.1, same, kept)

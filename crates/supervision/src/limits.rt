@@ -5,6 +5,8 @@ ghost use Rattle.supervision.specs.Limits.{refusal_in, sample_limits, slope_limi
 use calls::Refusal;
 use units::{Distance, FASTEST, FURTHEST, Grade, STEEPEST_FALL, STEEPEST_RISE, Speed};
 
+// Each question takes the call's own fields by name, as the call itself does: a struct of the two would be built for it alone.
+
 // Whether a section is within limits.
 pub(crate) fn ask_slope(place: Distance, grade: Grade) -> Result<(), Refusal>
     ensures { first (slope_limits place.millimetres grade.thousandths) ≡ refusal_in result }
@@ -12,7 +14,7 @@ pub(crate) fn ask_slope(place: Distance, grade: Grade) -> Result<(), Refusal>
     if place > FURTHEST {
         return Err(Refusal::PlaceOutOfLimits);
     }
-    if grade < STEEPEST_FALL || grade > STEEPEST_RISE {
+    if !(STEEPEST_FALL..=STEEPEST_RISE).contains(&grade) {
         return Err(Refusal::GradeOutOfLimits);
     }
     Ok(())

@@ -1,6 +1,6 @@
-ghost use Rattle.std.specs.Prelude.{◌≡◌, min, [], length};
+ghost use Rattle.std.specs.Prelude.{◌≡◌, min, [], length, is_some};
 ghost use Rattle.place_list.specs.Sequence.{loan_of, memory_of, room};
-ghost use Rattle.supervision.specs.Lists.{SectionAdded, TargetAdded, TargetTakenOut, sections_of, targets_of};
+ghost use Rattle.supervision.specs.Lists.{Added, SectionAdded, TargetAdded, TargetTakenOut, sections_of, targets_of};
 
 use calls::Refusal;
 use place_list::{Keyed, PlaceList, Placed};
@@ -55,36 +55,38 @@ impl<'a> Lists<'a> {
 // Adds a section, unless one begins at the place or no more fit.
 pub(crate) fn add_section(
     sections: &mut PlaceList<'_, Grade>,
-    place: Distance,
-    grade: Grade,
+    new: Placed<Grade>,
 ) -> Result<(), Refusal>
-    ensures { SectionAdded place.millimetres grade.thousandths sections.old sections.new result }
+    ensures { SectionAdded new.place.millimetres new.item.thousandths sections.old sections.new result }
 {
-    if sections.find_place(place).is_some() {
-        return Err(Refusal::Taken);
-    }
-    sections
-        .insert(Placed { place, item: grade })
-        .map_err(|_| Refusal::Full)
+    let standing = sections.find_place(new.place);
+    add(sections, standing, new)
 }
 
 // Adds a target, unless its number is taken or no more fit.
 pub(crate) fn add_target(
     targets: &mut PlaceList<'_, Target>,
-    place: Distance,
-    target: Target,
+    new: Placed<Target>,
 ) -> Result<(), Refusal>
-    ensures { TargetAdded target.number place.millimetres target.speed.tenths targets.old targets.new result }
+    ensures { TargetAdded new.item.number new.place.millimetres new.item.speed.tenths targets.old targets.new result }
 {
-    if targets.find_key(target.key()).is_some() {
+    let standing = targets.find_key(new.item.key());
+    add(targets, standing, new)
+}
+
+// Adds an item, unless one stands in its way or no more fit.
+fn add<T: Copy>(
+    list: &mut PlaceList<'_, T>,
+    standing: Option<usize>,
+    new: Placed<T>,
+) -> Result<(), Refusal>
+    ensures { Added (is_some standing) new list.old list.new result }
+{
+    if standing.is_some() {
         return Err(Refusal::Taken);
     }
-    targets
-        .insert(Placed {
-            place,
-            item: target,
-        })
-        .map_err(|_| Refusal::Full)
+    // Neither crate of the two refusals knows the other, and a dependence for one arm would be no plainer.
+    list.insert(new).map_err(|_| Refusal::Full)
 }
 
 // Takes the target with the number out, if there is one.
@@ -92,6 +94,6 @@ pub(crate) fn take_target(targets: &mut PlaceList<'_, Target>, number: u16) -> R
     ensures { TargetTakenOut number targets.old targets.new result }
 {
     let at = targets.find_key(u64::from(number)).ok_or(Refusal::Taken)?;
-    targets.take_out(at).ok_or(Refusal::Taken)?;
+    targets.take_out(at).unwrap();
     Ok(())
 }

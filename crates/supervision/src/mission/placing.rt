@@ -8,10 +8,12 @@ use crate::lists::{Lists, add_section, add_target, take_target};
 use crate::mission::Mission;
 use braking::BrakingModel;
 use calls::{Phase, Refusal};
+use place_list::Placed;
 use units::{Distance, Grade, Speed};
 use zones::{Target, target_place};
 
-// Each call says of its own answer that it is the phase after it, a fact for itself beside what the call made.
+// Each of the mission's calls says of its own answer that it holds the phase after it, a fact for itself beside what the call made.
+// The parameters are the call's own fields by name: a struct of two of them would be built for one call and taken apart in it.
 impl<M: BrakingModel> Mission<M> {
     // Adds a section of this grade, which reaches from its place up to, not at, the next one's.
     pub fn slope(
@@ -26,7 +28,7 @@ impl<M: BrakingModel> Mission<M> {
         ensures law { Law M.BrakingModel.meaning (Slope place grade) (answer_of result) self.old self.new lists.old lists.new }
     {
         ask_slope(place, grade)?;
-        add_section(&mut lists.sections, place, grade)?;
+        add_section(&mut lists.sections, Placed { place, item: grade })?;
         Ok(self.accept())
     }
 
@@ -45,7 +47,8 @@ impl<M: BrakingModel> Mission<M> {
         ensures law { Law M.BrakingModel.meaning (Announce number point distance speed) (answer_of result) self.old self.new lists.old lists.new }
     {
         let place = self.announced_place(point, distance, speed)?;
-        add_target(&mut lists.targets, place, Target { number, speed })?;
+        let item = Target { number, speed };
+        add_target(&mut lists.targets, Placed { place, item })?;
         Ok(self.accept())
     }
 

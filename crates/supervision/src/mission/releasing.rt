@@ -10,6 +10,7 @@ use calls::{Phase, Refusal};
 
 impl<M: BrakingModel> Mission<M> {
     // Lets the emergency brake go, where the last accepted call was a sample in zone 0.
+    // The clause `phase` is as that of the calls that place something: a fact for itself beside what the call made.
     pub fn release(&mut self, lists: &Lists<'_>) -> Result<Phase, Refusal>
         ensures made { Made M.BrakingModel.meaning Release (answer_of result) self.old self.new lists.now lists.now }
         ensures phase { IfOk result (λ p. p ≡ self.new.phase) }

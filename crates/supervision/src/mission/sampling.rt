@@ -13,6 +13,7 @@ use zones::sample_zone;
 
 impl<M: BrakingModel> Mission<M> {
     // The train's front is at the place and runs this fast: works out the zone and the phase.
+    // The clause `phase` and the parameters are as those of the calls that place something: a fact for itself, and the call's own fields by name.
     pub fn sample(
         &mut self,
         lists: &Lists<'_>,

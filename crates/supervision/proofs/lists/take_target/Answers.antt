@@ -21,7 +21,7 @@ returns-in_err-at c =
 pub returns : goal.returns
 returns c =
     let at : FirstAt number_of c.args.number (sequence c.args.targets.now) c.in_ok-at.at = rw (c.in_ok-at.ensures.ok_part, c.from.ensures) at c.find_key.ensures in
-    let out = rw c.in_ok-ok_or.ensures.ok_part at c.take_out.ensures in (
+    let out = rw c.unwrap.ensures at c.take_out.ensures in (
       target_stands c.args.targets.now c.args.number c.in_ok-at.at at,
       target_out c.args.targets.now c.take_out.new.self c.args.number c.in_ok-at.at at out.result,
       out.room,
