@@ -1,7 +1,7 @@
-use Rattle.std.proofs.Common.{ℕ, List, Bor, sym, refl, subst, ◌∙◌}
+use Rattle.std.proofs.Common.{ℕ, List, Bor, subst, ◌∙◌}
 use Rattle.std.proofs.lemmas.Result.{err_from_is_err_and}
-use Rattle.sheet_text.proofs.Progress.{Progress, start, step, stop, finish}
-use Rattle.sheet_text.specs.Sheets.{blank, Stops, Fronts}
+use Rattle.sheet_text.proofs.Progress.{step, stop, finish}
+use Rattle.sheet_text.specs.Sheets.{Stops, Fronts}
 use Rattle.sheet_text.proofs.reading.read_values.Goals as goal
 
 pub loop-key-preserved : goal.loop-key-preserved
