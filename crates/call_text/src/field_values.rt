@@ -1,5 +1,4 @@
 ghost use Rattle.std.specs.Prelude.{◌≡◌, ℤ, pos};
-ghost use Rattle.fields.specs.Signed.{ReadSigned};
 ghost use Rattle.call_text.specs.LineFields.{FieldAnswers};
 ghost use Rattle.call_text.specs.declared.key.Key.TheVariants.{Number as OfNumber, Grade as OfGrade, Amount as OfAmount};
 
@@ -7,9 +6,11 @@ use crate::call_fault::CallFault;
 use crate::key::{AmountKey, Key};
 use crate::line_parts::Fields;
 use crate::words::MOST_DIGITS;
-use fields::{ValueFault, read_signed};
+use fields::read_signed;
 use numerals::read_number;
 
+// A value has its key's form once it is read, so the numbers here are there.
+// Each key with a reader and a type of its own: one function that is passed the reader would be longer than these.
 impl<'a> Fields<'a> {
     // The amount of the next field, which has this key.
     pub(crate) fn amount(&mut self, key: AmountKey) -> Result<u64, CallFault>
@@ -17,7 +18,7 @@ impl<'a> Fields<'a> {
         ensures same { self.new.rest.text ≡ self.old.rest.text }
     {
         let value = self.value(Key::Amount(key))?;
-        Ok(read_number(value.bytes, MOST_DIGITS).ok_or(ValueFault::BadValue(value.byte))?)
+        Ok(read_number(value.bytes, MOST_DIGITS).unwrap())
     }
 
     // The grade of the next field.
@@ -26,7 +27,7 @@ impl<'a> Fields<'a> {
         ensures same { self.new.rest.text ≡ self.old.rest.text }
     {
         let value = self.value(Key::Grade)?;
-        Ok(read_grade(value.bytes).ok_or(ValueFault::BadValue(value.byte))?)
+        Ok(read_signed(value.bytes, MOST_DIGITS).unwrap())
     }
 
     // The number of the target of the next field.
@@ -35,14 +36,7 @@ impl<'a> Fields<'a> {
         ensures same { self.new.rest.text ≡ self.old.rest.text }
     {
         let value = self.value(Key::Number)?;
-        let number = read_number(value.bytes, MOST_DIGITS).ok_or(ValueFault::BadValue(value.byte))?;
+        let number = read_number(value.bytes, MOST_DIGITS).unwrap();
         u16::try_from(number).map_err(|_| CallFault::NumberTooLarge(value.byte))
     }
-}
-
-// The grade that the bytes write.
-fn read_grade(bytes: &[u8]) -> Option<i64>
-    ensures { ReadSigned 10 bytes.now result }
-{
-    read_signed(bytes, MOST_DIGITS)
 }

@@ -39,6 +39,7 @@ impl Key {
     }
 }
 
+// What differs between the types of words stands in their impls; reading one is one function for all.
 impl Word for Kind {
     ghost text = { word_of };
 

@@ -15,7 +15,7 @@ impl ValueFault {
         }
     }
 
-    // The byte of the text that the fault is at, which each kind holds.
+    // The byte of the text that the fault is at, which each kind holds: with a byte beside a kind, each place that finds a fault would name both.
     pub fn byte(self) -> usize
         ensures { result ≡ fault_byte self }
     {

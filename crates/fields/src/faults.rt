@@ -18,6 +18,7 @@ pub enum ValueFault {
     BadValue(usize),
 }
 
+// One line for one pair of types: a trait for all such pairs would want the same line in each impl.
 impl From<TextFault> for ValueFault {
     ghost from_gives = { λ e r. r ≡ OfText e };
 

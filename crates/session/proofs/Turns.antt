@@ -1,13 +1,13 @@
 -- Turn by turn: the lines read so far with those still to come, and likewise the calls and the answers.
-use Rattle.std.proofs.Common.{◌≡◌, ℕ, ◌+◌, ◌<◌, ◌≤◌, List, [], ◌∷◌, ◌++◌, length, get_or, drop, Ok, Err, Result, sym, refl, ap, ◌∙◌, subst, append_assoc, arith}
-use Rattle.std.proofs.lemmas.List.{append-nil, drop_all, drop_more}
+use Rattle.std.proofs.Common.{◌≡◌, ℕ, ◌<◌, List, [], ◌∷◌, ◌++◌, length, drop, Result, sym, refl, ap, subst, append_assoc, arith}
+use Rattle.std.proofs.lemmas.List.{append-nil}
 use Rattle.calls.specs.declared.call.Call.{Call}
 use Rattle.calls.specs.declared.phase.Phase.{Phase}
 use Rattle.calls.specs.declared.phase.Phase.TheVariants.{Free}
 use Rattle.calls.specs.declared.record.Record.{Record}
 use Rattle.call_text.specs.Lines.{Answers}
 use Rattle.call_text.specs.declared.call_fault.CallFault.{CallFault}
-use Rattle.session.specs.Answers.{answers_to, of_fault, of_record}
+use Rattle.session.specs.Answers.{answers_to}
 use Rattle.session.specs.Lines.{ReadAs}
 use Rattle.session.specs.declared.shown.Shown.{Shown}
 

@@ -17,18 +17,17 @@ pub fn answers(
 {
     let mut all = Vec::new(heap);
     let mut phase = Phase::Free;
-    let mut rest = records;
+    let mut rest = records.iter();
     for line in lines {
         match *line {
             Err(fault) => all.push(Shown::of_fault(fault, phase))?,
             Ok(_) => {
                 // where no record is left for a call, what is shown so far is all
-                let Some((entry, behind)) = rest.split_first() else {
+                let Some(entry) = rest.next() else {
                     return Ok(all);
                 };
                 all.push(Shown::from(*entry))?;
                 phase = entry.phase;
-                rest = behind;
             }
         }
     }

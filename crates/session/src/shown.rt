@@ -51,10 +51,7 @@ impl fmt::Display for Shown {
         let number = self.number;
         let phase = self.phase;
         match self.zone {
-            Some(zone) => {
-                let zone = zone.number();
-                write!(f, "answer={number} phase={phase} zone={zone}")
-            }
+            Some(zone) => write!(f, "answer={number} phase={phase} zone={}", zone.number()),
             None => write!(f, "answer={number} phase={phase} zone=-"),
         }
     }

@@ -30,7 +30,7 @@ impl SheetFault {
         }
     }
 
-    // The reader that the fault belongs to.
+    // The reader that the fault belongs to: each kind of fault has its own table of layers.
     pub fn layer(self) -> Layer
         ensures { result ≡ layer_of self }
     {
@@ -69,11 +69,13 @@ impl fmt::Display for SheetFault {
     ghost output = { λ fault. Some (answer_text (number fault) (fault_byte fault) (layer_of fault)) };
 
     fn fmt<W: fmt::Write>(&self, f: &mut fmt::Formatter<W>) -> fmt::Result {
-        // a format that is written to names locals
-        let number = self.number();
-        let byte = self.byte();
-        let layer = self.layer();
-        write!(f, "answer={number} byte={byte} layer={layer}")
+        write!(
+            f,
+            "answer={} byte={} layer={}",
+            self.number(),
+            self.byte(),
+            self.layer()
+        )
     }
 }
 

@@ -16,5 +16,5 @@ pub use entry::Entry;
 pub use faults::SheetFault;
 pub use key::{Key, WordKey};
 pub use layer::Layer;
-pub use reading::read_sheet;
+pub use reading::{SHEET_LINES, read_sheet};
 pub use word::{Word, read_word};

@@ -26,6 +26,7 @@ impl Key {
 }
 
 // The key with its value in the line that is read next; what is read then is what stands behind that line.
+// Here and below a clause says that the text stays: no type says which part of a `&mut` is left alone.
 fn read_entry(rest: &mut Cursor, key: Key) -> Result<Entry, SheetFault>
     ensures answers { LineAnswers key rest.old.text.now rest.old.at rest.new.at result }
     ensures same { rest.new.text ≡ rest.old.text }
@@ -37,8 +38,11 @@ fn read_entry(rest: &mut Cursor, key: Key) -> Result<Entry, SheetFault>
     Ok(entry)
 }
 
+// How many lines a sheet's text has, one for each key.
+pub const SHEET_LINES: usize = 12;
+
 // The twelve keys in the order of their lines.
-const KEYS: [Key; 12] = [
+const KEYS: [Key; SHEET_LINES] = [
     Key::Word(WordKey::Model),
     Key::Word(WordKey::Regime),
     Key::Word(WordKey::Train),

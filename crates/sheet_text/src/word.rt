@@ -26,10 +26,5 @@ pub trait Word: Copy + 'static {
 pub fn read_word<W: Word>(word: &[u8]) -> Option<W>
     ensures { WordRead W.text word.now result }
 {
-    for value in W::all() {
-        if value.word() == word {
-            return Some(*value);
-        }
-    }
-    None
+    W::all().iter().copied().find(|value| value.word() == word)
 }

@@ -1,14 +1,12 @@
 ghost use Rattle.std.specs.Prelude.{◌≡◌};
-ghost use Rattle.sheet_text.specs.Entries.{entries_of, key_of};
+ghost use Rattle.sheet_text.specs.Entries.{entries_of};
 
 use sheet::{NumberKey, Values};
-use sheet_text::{Entry, Key, WordKey};
-
-// How many lines a sheet has.
-pub(crate) const LINES: usize = 12;
+use sheet_text::{Entry, SHEET_LINES};
 
 // The values of a sheet with their keys, in the order of the lines.
-pub(crate) fn entries_of(values: &Values) -> [Entry; LINES]
+// A list beside that of the keys: from a key to its value a match would be as long, and the contracts hold both to one list.
+pub(crate) fn entries_of(values: &Values) -> [Entry; SHEET_LINES]
     ensures { result ≡ entries_of values.now }
 {
     [
@@ -25,17 +23,4 @@ pub(crate) fn entries_of(values: &Values) -> [Entry; LINES]
         Entry::Number(NumberKey::Ti, values.ti),
         Entry::Number(NumberKey::Eps, values.eps),
     ]
-}
-
-pub(crate) fn key_of(entry: Entry) -> Key
-    ensures { result ≡ key_of entry }
-{
-    match entry {
-        Entry::Model(_) => Key::Word(WordKey::Model),
-        Entry::Regime(_) => Key::Word(WordKey::Regime),
-        Entry::Train(_) => Key::Word(WordKey::Train),
-        Entry::Brake(_) => Key::Word(WordKey::Brake),
-        Entry::Lfren(_) => Key::Word(WordKey::Lfren),
-        Entry::Number(key, _) => Key::Number(key),
-    }
 }

@@ -6,4 +6,4 @@ mod writer;
 mod writing;
 
 pub use refusal::Refusal;
-pub use writing::write_sheet;
+pub use writing::{ROOM, write_sheet};

@@ -1,5 +1,8 @@
-ghost use Rattle.std.specs.Prelude.{◌≡◌};
+ghost use Rattle.std.specs.Prelude.{◌≡◌, ◌++◌, Some, codes, decimal};
 ghost use Rattle.sheet_writer.specs.Refusals.{number};
+
+use std::error::Error;
+use std::fmt;
 
 // Why a sheet is not written.
 #[derive(Clone, Copy, Debug, PartialEq, Eq)]
@@ -10,9 +13,21 @@ pub enum Refusal {
 
 impl Refusal {
     // The number that stands for the refusal.
+    // A cast of this type's own numbers: a trait for all such types would want the same line in each impl.
     pub fn number(self) -> u8
         ensures { result ≡ number self }
     {
         self as u8
     }
 }
+
+// A refusal prints as its answer.
+impl fmt::Display for Refusal {
+    ghost output = { λ refusal. Some (codes "answer=" ++ decimal (number refusal)) };
+
+    fn fmt<W: fmt::Write>(&self, f: &mut fmt::Formatter<W>) -> fmt::Result {
+        write!(f, "answer={}", self.number())
+    }
+}
+
+impl Error for Refusal {}

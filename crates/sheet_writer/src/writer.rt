@@ -2,9 +2,8 @@ ghost use Rattle.std.specs.Prelude.{◌≡◌, ◌+◌, ◌≤◌, length, decim
 ghost use Rattle.sheet_text.specs.Entries.{value_text, line_text, lines};
 ghost use Rattle.sheet_writer.specs.Steps.{Put};
 
-use crate::entries::key_of;
 use numerals::write_number;
-use sheet_text::{Entry, Word};
+use sheet_text::{Entry, Key, Word};
 
 // Memory that is written, and the byte that is written next.
 #[derive(Drop)]
@@ -57,7 +56,7 @@ impl<'a> Writer<'a> {
         ensures written { Put self.old.out.now self.old.at (line_text entry) self.new.out.now self.new.at }
         ensures same { self.new.out.ghost_name ≡ self.old.out.ghost_name }
     {
-        self.bytes(key_of(entry).name());
+        self.bytes(Key::from(entry).name());
         self.bytes(b"=");
         self.value(entry);
         self.bytes(b"\n");

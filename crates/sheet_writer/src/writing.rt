@@ -1,4 +1,4 @@
-ghost use Rattle.std.specs.Prelude.{◌≡◌, ◌≤◌, true, length};
+ghost use Rattle.std.specs.Prelude.{◌≡◌, ◌≤◌, true, length, IfOk};
 ghost use Rattle.sheet.specs.Ranges.{admissible};
 ghost use Rattle.sheet_text.specs.Entries.{lines};
 ghost use Rattle.sheet_writer.specs.Steps.{Put};
@@ -11,7 +11,7 @@ use sheet::{Admitted, Values};
 use sheet_text::Entry;
 
 // So many bytes of memory are asked for, whatever the sheet.
-const ROOM: usize = 128;
+pub const ROOM: usize = 128;
 
 // Writes the lines of the entries from the first byte on and answers where they end.
 fn write_lines(out: &mut [u8], entries: &[Entry]) -> usize
@@ -34,7 +34,8 @@ fn write_values(values: &Values, out: &mut [u8]) -> usize
 
 // Writes the text of the sheet and answers its length; the bytes behind it stay. Memory shorter than asked for is not written.
 pub fn write_sheet(sheet: &Admitted, out: &mut [u8]) -> Result<usize, Refusal>
-    ensures { Answers sheet.now.values out.old out.new result }
+    ensures answers { Answers sheet.now.values out.old out.new result }
+    ensures within { IfOk result (λ end. end ≤ length out.new) }
 {
     if out.len() < ROOM {
         return Err(Refusal::NoRoom);

@@ -8,11 +8,11 @@ use Rattle.call_text.proofs.line_parts.Fields.grade.Goals as goal
 
 pub returns-clause-answers : goal.returns-clause-answers
 returns-clause-answers c =
-    let grade = c.in_ok-ok_or.field-0 in
+    let grade = c.unwrap.result in
     let f : SFits w64 grade = search rules in
     let bytes = c.in_ok-value.value.bytes.now in
     let line = c.args.self.now.rest.text.now in
     let at = c.args.self.now.rest.at in
     let next = c.value.new.self.rest.at in
     subst (λ (z : ℤ). Stands Grade z line at next) (sym (to_z-of_z w64 grade f))
-    (grade_stands grade bytes line at next (subst (ReadSigned 10 bytes) c.in_ok-ok_or.ensures.ok_part c.read_grade.ensures) c.in_ok-value.ensures.answers.0)
+    (grade_stands grade bytes line at next (subst (ReadSigned 10 bytes) c.unwrap.ensures c.read_signed.ensures) c.in_ok-value.ensures.answers.0)

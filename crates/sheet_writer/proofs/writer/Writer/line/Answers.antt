@@ -9,6 +9,6 @@ pub returns-clause-written : goal.returns-clause-written
 returns-clause-written c =
     let name = subst
     (λ (text : List ℕ). Put c.args.self.now.out.now c.args.self.now.at text c.bytes.new.self.out.now c.bytes.new.self.at)
-    (c.name.ensures ∙ ap name_of c.key_of.ensures)
+    (c.name.ensures ∙ ap name_of c.from.ensures)
     c.bytes.ensures.written in
     join name (join c.bytes-2.ensures.written (join c.value.ensures.written c.bytes-3.ensures.written))

@@ -1,10 +1,7 @@
 -- Each turn writes one more line behind the others.
-use Rattle.std.proofs.Common.{ℕ, List, sym, refl, subst, ◌∙◌, arith}
-use Rattle.std.proofs.lemmas.List.{take_all}
-use Rattle.sheet_text.specs.Entries.{lines}
-use Rattle.sheet_text.specs.declared.entry.Entry.{Entry}
+use Rattle.std.proofs.Common.{ℕ, List, sym, subst, ◌∙◌}
 use Rattle.sheet_writer.specs.Steps.{Put}
-use Rattle.sheet_writer.proofs.Joining.{join, none}
+use Rattle.sheet_writer.proofs.Joining.{join}
 use Rattle.sheet_writer.proofs.Taking.{lines_more, room_more}
 use Rattle.sheet_writer.proofs.writer.Writer.lines.Goals as goal
 
