@@ -2,14 +2,8 @@
 
 // Reads the first line of each of many texts, each ended by a byte 1, as a call, and prints what is answered to it and where the next line begins.
 use call_lines::read_call;
-use input::{ended_texts, read_most};
+use input::{MANY_TEXTS, TEXT_END, ended_texts, read_most};
 use std::io;
-
-// The byte that ends a text.
-const END: u8 = 1;
-
-// How many bytes of the standard input are read at the most.
-const MOST: u64 = 1_048_576;
 
 fn show(rt: &HostRuntime, text: &[u8]) -> io::Result<()> {
     let line = read_call(text);
@@ -22,8 +16,8 @@ fn show(rt: &HostRuntime, text: &[u8]) -> io::Result<()> {
 
 // As in the program for the texts of sheets, but for what is shown: the two have no crate in common that could show either.
 fn main(rt: HostRuntime) -> io::Result<()> {
-    let texts = read_most(rt.alloc(), rt.stdin(), MOST)?;
-    for text in ended_texts(rt.alloc(), texts.as_slice(), END)?.as_slice() {
+    let texts = read_most(rt.alloc(), rt.stdin(), MANY_TEXTS)?;
+    for text in ended_texts(rt.alloc(), texts.as_slice(), TEXT_END)?.as_slice() {
         show(&rt, text)?;
     }
     Ok(())

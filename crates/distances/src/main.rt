@@ -6,7 +6,7 @@ mod steps_lines;
 mod table;
 
 use braking::Question;
-use input::read_most;
+use input::{ONE_TEXT, read_most};
 use models::SheetModel;
 use sheet::Draft;
 use sheet_lines::show_sheet;
@@ -16,9 +16,6 @@ use steps_lines::show_steps;
 use table::show_table;
 use units::{Grade, Speed};
 
-// How many bytes of the standard input are read at the most.
-const MOST: u64 = 65_536;
-
 // The question whose steps are shown: from 100 km/h to a stop on the level.
 const SHOWN: Question = Question {
     speed: Speed { tenths: 1_000 },
@@ -27,7 +24,7 @@ const SHOWN: Question = Question {
 };
 
 fn main(rt: HostRuntime) -> io::Result<()> {
-    let text = read_most(rt.alloc(), rt.stdin(), MOST)?;
+    let text = read_most(rt.alloc(), rt.stdin(), ONE_TEXT)?;
     // a fault is printed and no error of the program, so `?` does not serve
     let sheet = match read_admitted(text.as_slice()) {
         Ok(sheet) => sheet,

@@ -1,7 +1,9 @@
 #![tactic(auto)]
 
+mod limits;
 mod reading;
 mod texts;
 
+pub use limits::{MANY_TEXTS, ONE_TEXT, TEXT_END};
 pub use reading::read_most;
 pub use texts::ended_texts;

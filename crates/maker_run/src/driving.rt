@@ -11,6 +11,7 @@ use sheet::Admitted;
 use std::alloc::Global;
 
 // Opens the sheet with the brake, makes the calls and closes it. The mission's law holds for this brake, by the call's own contract.
+// The clauses are those of that call, said of this brake: whoever assesses it reads them here.
 pub(crate) fn drive(heap: Global, sheet: Admitted, brake: ConstantBrake, calls: &[Call]) -> Journey
     ensures calls { IfOk result.records (λ v. map (λ e. e.call) v.items ≡ calls.now) }
     ensures history { IfOk result.records (λ v. v.items ≡ history_of sheet.values.eps (meaning_of brake.stated brake.lead.tw brake.lead.ti) (start 64 32) calls.now) }

@@ -1,7 +1,7 @@
 #![tactic(auto)]
 
 // Runs a mission: the standard input holds a train sheet of twelve lines and then call lines; each call line is answered in its turn.
-use input::read_most;
+use input::{ONE_TEXT, read_most};
 use journey::{Journey, run_in_full_room};
 use models::SheetModel;
 use session::{answers, calls_in, read_lines, sheet_end};
@@ -9,11 +9,8 @@ use sheet::Draft;
 use sheet_text::read_admitted;
 use std::io;
 
-// How many bytes of the standard input are read at the most.
-const MOST: u64 = 65_536;
-
 fn main(rt: HostRuntime) -> io::Result<()> {
-    let text = read_most(rt.alloc(), rt.stdin(), MOST)?;
+    let text = read_most(rt.alloc(), rt.stdin(), ONE_TEXT)?;
     let end = sheet_end(text.as_slice());
     let lines = read_lines(rt.alloc(), &text[end..])?;
     let calls = calls_in(rt.alloc(), lines.as_slice())?;

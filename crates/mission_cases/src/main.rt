@@ -3,7 +3,7 @@
 // Runs many missions, whose texts stand with a line `next` between them, call by call, and prints what each line is answered.
 
 use braking::BrakingModel;
-use input::read_most;
+use input::{MANY_TEXTS, read_most};
 use models::SheetModel;
 use session::{Shown, read_lines, sheet_end};
 use sheet::{Admitted, Draft};
@@ -11,14 +11,11 @@ use sheet_text::read_admitted;
 use std::io;
 use supervision::{BLANK_SECTION, BLANK_TARGET, Lists, Mission};
 
-// How many bytes of the standard input are read at the most.
-const MOST: u64 = 1_048_576;
-
 // The line between two texts.
 const NEXT: &[u8] = b"next\n";
 
 fn main(rt: HostRuntime) -> io::Result<()> {
-    let texts = read_most(rt.alloc(), rt.stdin(), MOST)?;
+    let texts = read_most(rt.alloc(), rt.stdin(), MANY_TEXTS)?;
     let lines = texts
         .as_slice()
         .split_inclusive(|byte| *byte == b'\n')
