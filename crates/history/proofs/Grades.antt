@@ -1,4 +1,5 @@
 -- The computed grade of a stretch is the least grade over its places.
+use Rattle.std.proofs.lemmas.Bool.Decides.{nat_tests}
 use Rattle.std.proofs.Common.{rules}
 use Rattle.std.proofs.Common.{◌≡◌, ℕ, ◌<◌, ◌≤◌, true, false, cond, leb, ◌⊎◌, List, [], ◌∷◌, ℤ, ◌≤ℤ◌, sym, refl, ap, ◌∙◌, inl, inr, arith}
 use lib.Signed.{≤ℤ_refl}
@@ -81,7 +82,10 @@ falls a d front place q (x ∷ xs) f k l =
     let r = falls (int_min a x.grade) x.grade front place x.place xs (omega (arith, k.0)) k.1 (min_right a x.grade) in
     let low : least_grade (int_min a x.grade) front place xs ≤ℤ a = grind arith in (
       rw n (cond_both _ (least_grade (int_min a x.grade) front place xs) a (λ (v : ℤ). v ≤ℤ a) (λ e. low) (λ e. ≤ℤ_refl a)),
-      λ p m. grind arith,
+      λ p m. rw n (cond_both _ (least_grade (int_min a x.grade) front place xs) a (λ (v : ℤ). v ≤ℤ grade_in d (x ∷ xs) p)
+          (λ e. cond_both (leb x.place p) (grade_in x.grade xs p) d (λ (v : ℤ). least_grade (int_min a x.grade) front place xs ≤ℤ v)
+          (λ e. r.1 p m) (λ e. grind arith))
+          (λ e. let h : leb x.place p ≡ false = grind (arith, nat_tests) in rw h l)),
     )
 
 -- The computed grade is at most that at each place of the stretch.

@@ -1,5 +1,5 @@
 -- Each step keeps the three lines, and what clear says.
-use Rattle.std.proofs.Common.{◌≡◌, ℕ, ◌<◌, ◌≤◌, true, false, [], ◌∷◌, ◌++◌, ℤ, Some, None, Err, sym, refl, ap, ◌∙◌, subst, inl, inr, arith}
+use Rattle.std.proofs.Common.{◌≡◌, ℕ, ◌<◌, ◌≤◌, Bool, true, false, not, [], ◌∷◌, ◌++◌, ℤ, Some, None, Err, sym, refl, ap, ◌∙◌, subst, inl, inr, arith}
 use Rattle.std.proofs.lemmas.Bool.{cases_lt}
 use Rattle.units.specs.declared.quantities.Distance.{Distance}
 use Rattle.units.specs.declared.quantities.Speed.{Speed}
@@ -8,17 +8,18 @@ use Rattle.braking.specs.Meaning.{Meaning, Question, Asked}
 use Rattle.calls.specs.declared.call.Call.{Call}
 use Rattle.calls.specs.declared.call.Call.TheVariants.{Slope, Announce, Withdraw, Sample, Release}
 use Rattle.calls.specs.declared.phase.Phase.{Phase}
+use Rattle.calls.specs.declared.phase.Phase.TheVariants.{Free, Warning, Emergency}
 use Rattle.calls.specs.declared.record.Record.{Record}
 use Rattle.calls.specs.declared.refusal.Refusal.{Refusal}
 use Rattle.calls.specs.declared.zone.Zone.TheVariants as zones
 use Rattle.history.specs.History.{History, Target, Accepts, Bound, steepest, sample}
 use Rattle.history.specs.Lines.{Lines, LastSampleClear, Reason, MustBrake, IsClear, On}
-use Rattle.history.specs.Step.{State, Stepped, step, does, decide, first, grounds, unfit_grade, question, target_zone, largest_zone, zone_in, zone_of, next}
+use Rattle.history.specs.Step.{State, Stepped, step, does, decide, first, grounds, unfit_grade, question, target_zone, largest_zone, zone_in, zone_of, next, releasable}
 use Rattle.history.specs.Runs.{entry_of}
 use Rattle.history.specs.Agrees.{Tracks}
 use Rattle.history.proofs.Splits.{nil_split, split_push, longer}
 use Rattle.history.proofs.Grades.{least_fit}
-use Rattle.history.proofs.Tracks.{ahead_is, ahead_one, same_front, same_speed}
+use Rattle.history.proofs.Tracks.{ahead_is, ahead_one, same_front, same_speed, groundless}
 use Rattle.history.proofs.Zones.{must_control, control_may, clear_clear, binding_zone, one_control, all_clear, some_control, next_control, next_came, clear_is}
 
 abbrev asking : ℕ → ℕ → ℤ → Question
@@ -142,12 +143,21 @@ module _ (eps : ℕ) (m : Meaning) (law : Lawful m) (h : History) (s : State) (k
             record { before = h; entry = e; after = []; split = refl; last = λ b x a y acc. nil_split b x a y; front = p.millimetres; speed = w.tenths; sampled = (refl, tt); not_too_fast = fine; all_clear = clear_there p.millimetres w.tenths none fine },
       )
 
+  released : (p : Phase) (b : Bool) → not (releasable p b) ≡ false → b ≡ true
+  released Free b e = grind arith
+  released Warning b e = grind arith
+  released Emergency true e = refl
+  released Emergency false e = never_clear (sym e)
+
+  good_release : s.clear ≡ true → Good eps m h Release (does eps m s Release)
+  good_release clear = grind arith
+
   good_does : (c : Call) → first (grounds m s c) ≡ None → Good eps m h c (does eps m s c)
   good_does (Slope p g) none = grind arith
   good_does (Announce n p d w) none = grind arith
   good_does (Withdraw n) none = grind arith
   good_does (Sample p w) none = good_sample p w
-  good_does Release none = grind arith
+  good_does Release none = good_release (released s.phase s.clear (groundless (grounds m s Release) none).0)
 
   pub good_step : (c : Call) → Good eps m h c (step eps m s c)
   good_step c = elim (first (grounds m s c)) as (λ o. first (grounds m s c) ≡ o → Good eps m h c (decide o s (does eps m s c)))

@@ -1,4 +1,5 @@
 -- What a zone says of the exact distances, by a lawful meaning, and of the phase after it.
+use Rattle.std.proofs.lemmas.Bool.Decides.{nat_tests}
 use Rattle.std.proofs.Common.{rules}
 use Rattle.std.proofs.Common.{◌≡◌, ℕ, ◌+◌, ◌*◌, ◌<◌, ◌≤◌, max, true, false, cond, leb, List, [], ◌∷◌, refl, ap, inl, inr, mul-le-mul_right, arith}
 use Rattle.std.proofs.lemmas.Bool.{cases_lt}
@@ -36,7 +37,7 @@ pub must_control : (v : Verdict) (front place : ℕ) → Sound v → MustBrake v
 must_control weak front place s h = refl
 must_control (strong e c) front place s h =
     let l : place ≤ front + c.control = reach place front c.control e.control.under e.control.over e.control.above (omega arith) (grind arith) in
-    grind arith
+    grind (arith, nat_tests)
 
 -- In zone control the brake may come on.
 pub control_may : (v : Verdict) (front place : ℕ) → Sound v → zone_of v front place ≡ zones.Control → MayBrake v front place

@@ -12,6 +12,7 @@ use std::alloc::Global;
 use supervision::{BLANK_SECTION, BLANK_TARGET, MOST_SECTIONS, MOST_TARGETS};
 
 // Opens the sheet as a mission over the model, makes the calls in their order, and closes it. Memory is lent for as much as a mission's lists hold at most.
+// It says what `run` says with that room put in: a caller is to read it without the memory.
 pub fn run_in_full_room<M: BrakingModel + Drop>(
     heap: Global,
     sheet: Admitted,
