@@ -1,52 +1,24 @@
 -- The worked run, that its meaning is lawful, and histories that the lines rule out.
-use Rattle.std.proofs.Common.{◌≡◌, ℕ, ◌*◌, ◌≤◌, Bool, true, false, cond, leb, [], ◌∷◌, ◌++◌, pos, None, Ok, ◌≤ℤ◌, ◌<ℤ◌, sym, refl, ap, ◌∙◌, subst, inl, inr, arith, lit<, lit≤}
-use lib.Signed.{lt_z}
+use Rattle.std.proofs.Common.{◌≡◌, ℕ, ◌≤◌, true, false, leb, [], ◌∷◌, ◌++◌, pos, None, Ok, refl, ap, ◌∙◌, subst, inl, inr, arith, lit<, lit≤}
 use Rattle.std.proofs.lemmas.Bool.{le-leb}
-use Rattle.std.proofs.lemmas.Int.{ints}
-use Rattle.units.specs.Fractions.{whole}
-use Rattle.braking.specs.Laws.{Close, Lawful, Sound, Strong}
-use Rattle.braking.specs.Meaning.{Question, Verdict, weak, strong}
+use Rattle.braking.specs.Laws.{Lawful}
+use Rattle.braking.specs.Meaning.{Question}
 use Rattle.calls.specs.declared.phase.Phase.TheVariants.{Free, Warning, Emergency}
 use Rattle.calls.specs.declared.record.Record.{Record}
 use Rattle.history.specs.History.{History, Target, Bound, slope, announce, withdraw, sample, release}
 use Rattle.history.specs.Lines.{Lines, Reason, MayBrake, IsClear, LastSampleClear}
 use Rattle.history.specs.Step.{State, start, question}
 use Rattle.history.specs.Agrees.{Tracks}
-use Rattle.history.proofs.Splits.{stands_none, nil_split, split_push}
-use Rattle.history.proofs.Tracks.{tracks_start, tracks_step, tracks_sampled, ahead_is, kinds, same_front, same_speed}
+use Rattle.history.proofs.Splits.{stands_none, split_push}
+use Rattle.history.proofs.Tracks.{tracks_start, tracks_step, tracks_sampled, ahead_is, same_front, same_speed}
 use Rattle.history.proofs.Steps.{asks}
 use Rattle.histories.specs.Examples.{tenfold, Worked, done, one_target, RuledOut}
 
 pub worked : Worked
 worked = record { numbers = refl; phases = refl }
 
-abbrev judged : ℕ → Bool → Verdict
-judged v b = cond b weak
-    (strong (record { control = whole (10 * v); warning = whole (12 * v); nominal = whole (15 * v) })
-    (record { control = 10 * v; warning = 12 * v; nominal = 15 * v }))
-
-close : (c : ℕ) → Close (whole c) c
-close c = record { at_least = omega arith; at_most = omega arith }
-
-judged_sound : (v : ℕ) (b : Bool) → Sound (judged v b)
-judged_sound v true = tt
-judged_sound v false = (close (10 * v), close (12 * v), close (15 * v))
-
-weak_there : (v : ℕ) (b : Bool) → cond b (pos 0) (pos 1000000) <ℤ pos (500000 * 1) → judged v b ≡ weak
-weak_there v true l = refl
-weak_there v false l = absurd (omega (arith, ints))
-
-strong_there : (v : ℕ) (b : Bool) → pos (500009 * 1) ≤ℤ cond b (pos 0) (pos 1000000) → Strong (judged v b)
-strong_there v true l = absurd (omega (arith, ints))
-strong_there v false l = tt
-
 pub tenfold_lawful : Lawful tenfold
-tenfold_lawful = record {
-  top_bounded = lit≤ tt;
-  weak_below = λ q a b l. weak_there q.speed (lt_z q.grade (pos 0)) l;
-  strong_above = λ q a b l. strong_there q.speed (lt_z q.grade (pos 0)) l;
-  sound = λ q a b. judged_sound q.speed (lt_z q.grade (pos 0));
-}
+tenfold_lawful = grind arith
 
 -- The history with one target is a run's, and this is the state after it.
 abbrev opened : State
@@ -69,7 +41,7 @@ near : Bound 10 one_target 790 20 goal (question made.sections 790 20 goal)
 near = record { stands = tracked.target_stands goal (inl refl); asks_speed = refl; asks_target = refl; asks_grade = ahead_is 10 one_target made tracked 790 990; binds = lit< tt }
 
 never : (h : History) → false ≡ true → LastSampleClear 10 tenfold h
-never h e = let o : ◌≡◌ {A = ℕ} 0 1 = cc in absurd (omega arith)
+never h e = grind arith
 
 -- As far from the target as the margin keeps the brake off, or further.
 far : (p : ℕ) (t : Target) (q : Question) → Bound 10 one_target p 20 t q → MayBrake (tenfold.verdict q) p t.place → p ≤ 699 → ⊥
@@ -86,7 +58,7 @@ far p t q b may away =
     ]
 
 early : (p front speed : ℕ) → sample p 20 ≡ sample front speed → Reason 10 tenfold one_target front speed → p ≤ 699 → ⊥
-early p front speed c (inl fast) away = omega (arith, same_speed (record { millimetres = p }) (record { tenths = 20 }) front speed c)
+early p front speed c (inl fast) away = grind arith
 early p front speed c (inr w) away =
     let ef : front ≡ p = same_front (record { millimetres = p }) (record { tenths = 20 }) front speed c in
     let ev : speed ≡ 20 = same_speed (record { millimetres = p }) (record { tenths = 20 }) front speed c in
@@ -94,16 +66,15 @@ early p front speed c (inr w) away =
     (subst (λ (x : ℕ). MayBrake (tenfold.verdict w.1.1) x w.1.0.place) ef w.1.3) away
 
 nothing : (front speed : ℕ) → sample 0 50 ≡ sample front speed → Reason 10 tenfold [] front speed → ⊥
-nothing front speed c (inl fast) = omega (arith, same_speed (record { millimetres = 0 }) (record { tenths = 50 }) front speed c)
+nothing front speed c (inl fast) = grind arith
 nothing front speed c (inr w) = stands_none 10 w.1.0 w.1.2.stands
 
 soon : LastSampleClear 10 tenfold (done (sample 0 51) Emergency ∷ []) → ⊥
 soon w =
     elim (split_push [] w.before (done (sample 0 51) Emergency) w.entry w.after w.split) [
       | inl p ↦
-          let c : sample 0 51 ≡ sample w.front w.speed = ap (λ (e : Record). e.call) p.1 ∙ w.sampled.0 in
-          omega (arith, same_speed (record { millimetres = 0 }) (record { tenths = 51 }) w.front w.speed c, w.not_too_fast)
-      | inr p ↦ nil_split w.before w.entry p.0 p.2
+          grind arith
+      | inr p ↦ grind arith
     ]
 
 -- 250 before the target, after the brake came on.
@@ -127,7 +98,7 @@ yet w =
           let ev : w.speed ≡ 20 = same_speed (record { millimetres = 740 }) (record { tenths = 20 }) w.front w.speed c in
           let q : Question = question made.sections 740 20 goal in
           let b : Bound 10 braked 740 20 goal (question made.sections 740 20 goal) = record { stands = braked_tracked.target_stands goal (inl refl); asks_speed = refl; asks_target = refl; asks_grade = ahead_is 10 braked braking braked_tracked 740 990; binds = lit< tt } in
-          let b' : Bound 10 w.before w.front w.speed goal (question made.sections 740 20 goal) = subst (λ (h : History). Bound 10 h w.front w.speed goal q) p.0 (subst (λ (x : ℕ). Bound 10 braked x w.speed goal q) (sym ef) (subst (λ (x : ℕ). Bound 10 braked 740 x goal q) (sym ev) b)) in
+          let b' : Bound 10 w.before w.front w.speed goal (question made.sections 740 20 goal) = grind arith in
           let short : IsClear (tenfold.verdict (question made.sections 740 20 goal)) 740 990 = subst (λ (x : ℕ). IsClear (tenfold.verdict q) x 990) ef (w.all_clear goal q b') in
           omega (arith, short)
       | inr p ↦ w.last p.0 r [] p.1 tt
@@ -154,14 +125,14 @@ ended_tracked : Tracks 10 ended (record { sections = made.sections; section_room
 ended_tracked = tracks_step 10 tenfold one_target made tracked (withdraw 7)
 
 gone : (front speed : ℕ) → sample 790 20 ≡ sample front speed → Reason 10 tenfold ended front speed → ⊥
-gone front speed c (inl fast) = omega (arith, same_speed (record { millimetres = 790 }) (record { tenths = 20 }) front speed c)
+gone front speed c (inl fast) = grind arith
 gone front speed c (inr w) = ended_tracked.target_in w.1.0 w.1.2.stands
 
 off : Free ≡ Emergency → ⊥
-off e = let z : ◌≡◌ {A = ℕ} 0 1 = cc in omega arith
+off e = grind arith
 
 warned : Warning ≡ Emergency → ⊥
-warned e = let z : ◌≡◌ {A = ℕ} 0 1 = cc in omega arith
+warned e = grind arith
 
 pub ruled_out : RuledOut
 ruled_out = record {
@@ -171,10 +142,10 @@ ruled_out = record {
   for_nothing = λ k. let l : Lines 10 tenfold [] (done (sample 0 50) Emergency) = k [] _ [] refl in let w = l.for_a_reason off refl in nothing w.0 w.1 w.2.0 w.3;
   too_early = λ k. let l : Lines 10 tenfold one_target _ = k one_target _ [] refl in let w = l.for_a_reason off refl in early _ w.0 w.1 w.2.0 w.3 (omega arith);
   unasked = λ k. let l : Lines 10 tenfold (done (sample 0 51) Emergency ∷ []) (done (sample 0 20) Free) = k (_ ∷ []) _ [] refl in
-      kinds _ _ (l.when_clear refl off).0.0 (λ z. omega arith);
+      grind arith;
   too_soon = λ k. let l : Lines 10 tenfold (done (sample 0 51) Emergency ∷ []) (done release Free) = k (_ ∷ []) _ [] refl in soon (l.when_clear refl off).1;
   not_yet = λ k. let l : Lines 10 tenfold (braked ++ done (sample 740 20) Emergency ∷ []) (done release Free) = k (braked ++ done (sample 740 20) Emergency ∷ []) _ [] refl in yet (l.when_clear refl off).1;
   unknown_grade = λ k. let l : Lines 10 tenfold lone (done (sample 0 20) Free) = k lone _ [] refl in off (l.in_time.too_near 0 20 (refl, tt) (lit≤ tt) goal _ steep tt);
   withdrawn = λ k. let l : Lines 10 tenfold ended (done (sample 790 20) Emergency) = k ended _ [] refl in let w = l.for_a_reason off refl in gone w.0 w.1 w.2.0 w.3;
-  no_sample = λ k. let l : Lines 10 tenfold [] (done (slope 0 (pos 4)) Emergency) = k [] _ [] refl in let w = l.for_a_reason off refl in kinds _ _ w.2.0 (λ z. omega arith);
+  no_sample = λ k. let l : Lines 10 tenfold [] (done (slope 0 (pos 4)) Emergency) = k [] _ [] refl in let w = l.for_a_reason off refl in grind arith;
 }

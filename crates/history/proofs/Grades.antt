@@ -1,10 +1,10 @@
 -- The computed grade of a stretch is the least grade over its places.
-use Rattle.std.proofs.Common.{◌≡◌, ℕ, ◌<◌, ◌≤◌, true, false, cond, leb, ◌⊎◌, List, [], ◌∷◌, ℤ, ◌≤ℤ◌, sym, refl, ap, ◌∙◌, subst, inl, inr, arith}
-use lib.Signed.{lt_z, ≤ℤ_refl}
-use Rattle.std.specs.Int.{int_min}
-use Rattle.std.proofs.lemmas.Int.{ints, clamps}
-use Rattle.std.proofs.lemmas.Bool.{cases_lt, le-leb, lt-leb, cond_both, leb-true, leb-false}
 use Rattle.std.proofs.lemmas.Bool.Decides.{nat_tests}
+use Rattle.std.proofs.Common.{rules}
+use Rattle.std.proofs.Common.{◌≡◌, ℕ, ◌<◌, ◌≤◌, true, false, cond, leb, ◌⊎◌, List, [], ◌∷◌, ℤ, ◌≤ℤ◌, sym, refl, ap, ◌∙◌, inl, inr, arith}
+use lib.Signed.{≤ℤ_refl}
+use Rattle.std.specs.Int.{int_min}
+use Rattle.std.proofs.lemmas.Bool.{cases_lt, le-leb, lt-leb, cond_both, leb-true, leb-false}
 use Rattle.place_list.specs.Membership.{In}
 use Rattle.history.specs.History.{Section}
 use Rattle.history.specs.Step.{least_grade, unfit_grade}
@@ -16,8 +16,8 @@ above_ascends p (x ∷ xs) h = h.1
 
 pub above_in : (p : ℕ) (xs : List Section) → Above p xs → (y : Section) → In y xs → p < y.place
 above_in p [] h y i = absurd i
-above_in p (x ∷ xs) h y (inl e) = let k : y.place ≡ x.place = ap (λ (s : Section). s.place) e in omega (arith, h.0)
-above_in p (x ∷ xs) h y (inr i) = let k : x.place < y.place = above_in x.place xs h.1 y i in omega (arith, h.0)
+above_in p (x ∷ xs) h y (inl e) = grind arith
+above_in p (x ∷ xs) h y (inr i) = let k : x.place < y.place = above_in x.place xs h.1 y i in omega arith
 
 -- The grade at p by the list, where d holds before its first section.
 abbrev pub grade_in : ℤ → List Section → ℕ → ℤ
@@ -31,70 +31,60 @@ LastBegun xs p x = In x xs × (x.place ≤ p) × ((y : Section) → In y xs → 
 abbrev pub GradeIn : ℤ → List Section → ℕ → ℤ → Type 0
 GradeIn d xs p g = ((x : Section) × LastBegun xs p x × (x.grade ≡ g)) ⊎ (((y : Section) → In y xs → p < y.place) × (g ≡ d))
 
-place_same : (y x : Section) → y ≡ x → y.place ≡ x.place
-place_same y x e = ap (λ (s : Section). s.place) e
-
 -- What holds of the rest holds of the whole, once the first has begun.
 begun : (d : ℤ) (x : Section) (xs : List Section) (p : ℕ) (g : ℤ) → Above x.place xs → x.place ≤ p → GradeIn x.grade xs p g → GradeIn d (x ∷ xs) p g
 begun d x xs p g a l (inl w) =
     let above : x.place < w.0.place = above_in x.place xs a w.0 w.1.0 in
-    inl (w.0, (inr w.1.0, w.1.1, λ y i k. elim i [ inl e ↦ omega (arith, place_same y x e) | inr j ↦ w.1.2 y j k ]), w.2)
-begun d x xs p g a l (inr w) =
-    inl (x, (inl refl, l, λ y i k. elim i [ inl e ↦ omega (arith, place_same y x e) | inr j ↦ absurd (omega (arith, w.0 y j)) ]), sym w.1)
+    inl (w.0, (inr w.1.0, w.1.1, λ y i k. grind arith), w.2)
+begun d x xs p g a l (inr w) = grind arith
 
 pub grade_in_is : (d : ℤ) (xs : List Section) (p : ℕ) → Ascends xs → GradeIn d xs p (grade_in d xs p)
-grade_in_is d [] p a = inr ((λ y i. absurd i), refl)
+grade_in_is d [] p a = grind arith
 grade_in_is d (x ∷ xs) p a =
     cond_both (leb x.place p) (grade_in x.grade xs p) d (λ (g : ℤ). GradeIn d (x ∷ xs) p g)
     (λ e. begun d x xs p _ a (leb-true x.place p e) (grade_in_is x.grade xs p (above_ascends x.place xs a)))
     (λ e. let l : p < x.place = leb-false x.place p e in
-    inr ((λ y i. elim i [ inl k ↦ omega (arith, place_same y x k) | inr j ↦ omega (arith, above_in x.place xs a y j) ]), refl))
+    inr ((λ y i. elim i [ inl k ↦ grind arith | inr j ↦ omega (arith, above_in x.place xs a y j) ]), refl))
 
 -- A place has one section.
 one_section : (xs : List Section) → Ascends xs → (x y : Section) → In x xs → In y xs → x.place ≡ y.place → x ≡ y
 one_section [] a x y i j e = absurd i
 one_section (z ∷ zs) a x y (inl i) (inl j) e = i ∙ sym j
-one_section (z ∷ zs) a x y (inl i) (inr j) e = absurd (omega (arith, place_same x z i, above_in z.place zs a y j))
-one_section (z ∷ zs) a x y (inr i) (inl j) e = absurd (omega (arith, place_same y z j, above_in z.place zs a x i))
+one_section (z ∷ zs) a x y (inl i) (inr j) e = grind (arith, above_in z.place zs a y j)
+one_section (z ∷ zs) a x y (inr i) (inl j) e = grind (arith, above_in z.place zs a x i)
 one_section (z ∷ zs) a x y (inr i) (inr j) e = one_section zs (above_ascends z.place zs a) x y i j e
 
 pub grade_in_one : (d : ℤ) (xs : List Section) (p : ℕ) (g k : ℤ) → Ascends xs → GradeIn d xs p g → GradeIn d xs p k → g ≡ k
 grade_in_one d xs p g k a (inl v) (inl w) =
-    let same : v.0 ≡ w.0 = one_section xs a v.0 w.0 v.1.0 w.1.0 (omega (arith, v.1.2 w.0 w.1.0 w.1.1, w.1.2 v.0 v.1.0 v.1.1)) in
+    let same : v.0 ≡ w.0 = one_section xs a v.0 w.0 v.1.0 w.1.0 (grind arith) in
     sym v.2 ∙ (ap (λ (s : Section). s.grade) same ∙ w.2)
-grade_in_one d xs p g k a (inl v) (inr w) = absurd (omega (arith, w.0 v.0 v.1.0, v.1.1))
-grade_in_one d xs p g k a (inr v) (inl w) = absurd (omega (arith, v.0 w.0 w.1.0, w.1.1))
+grade_in_one d xs p g k a (inl v) (inr w) = grind arith
+grade_in_one d xs p g k a (inr v) (inl w) = grind arith
 grade_in_one d xs p g k a (inr v) (inr w) = v.1 ∙ sym w.1
 
-min_left : (a b : ℤ) → int_min a b ≤ℤ a
-min_left a b = omega (arith, ints, clamps)
-
 min_right : (a b : ℤ) → int_min a b ≤ℤ b
-min_right a b = omega (arith, ints, clamps)
-
-below_both : (a b c : ℤ) → a ≤ℤ b → b ≤ℤ c → a ≤ℤ c
-below_both a b c h k = omega (arith, ints)
+min_right a b = grind arith
 
 min_either : (a b : ℤ) → (int_min a b ≡ a) ⊎ (int_min a b ≡ b)
-min_either a b = elim (lt_z b a) as (λ v. (cond v b a ≡ a) ⊎ (cond v b a ≡ b)) [ true ↦ inr refl | false ↦ inl refl ]
+min_either a b = grind arith
 
 -- Up to where the sections begin, d holds.
 early : (d : ℤ) (q : ℕ) (xs : List Section) (p : ℕ) → Above q xs → p ≤ q → grade_in d xs p ≡ d
 early d q [] p a l = refl
-early d q (x ∷ xs) p a l = let e : leb x.place p ≡ false = lt-leb x.place p (omega (arith, a.0)) in rw e
+early d q (x ∷ xs) p a l = grind arith
 
 -- Beyond the front the value only falls, and stays at or below the grade at each place that is still to come.
 falls : (a d : ℤ) (front place q : ℕ) (xs : List Section) → front ≤ q → Above q xs → a ≤ℤ d →
     (least_grade a front place xs ≤ℤ a) × ((p : ℕ) → p ≤ place → least_grade a front place xs ≤ℤ grade_in d xs p)
-falls a d front place q [] f k l = (≤ℤ_refl a, λ p m. l)
+falls a d front place q [] f k l = grind arith
 falls a d front place q (x ∷ xs) f k l =
-    let n : leb x.place front ≡ false = lt-leb x.place front (omega (arith, k.0)) in
+    let n : leb x.place front ≡ false = grind arith in
     let r = falls (int_min a x.grade) x.grade front place x.place xs (omega (arith, k.0)) k.1 (min_right a x.grade) in
-    let low : least_grade (int_min a x.grade) front place xs ≤ℤ a = below_both _ _ _ r.0 (min_left a x.grade) in (
+    let low : least_grade (int_min a x.grade) front place xs ≤ℤ a = grind arith in (
       rw n (cond_both _ (least_grade (int_min a x.grade) front place xs) a (λ (v : ℤ). v ≤ℤ a) (λ e. low) (λ e. ≤ℤ_refl a)),
       λ p m. rw n (cond_both _ (least_grade (int_min a x.grade) front place xs) a (λ (v : ℤ). v ≤ℤ grade_in d (x ∷ xs) p)
           (λ e. cond_both (leb x.place p) (grade_in x.grade xs p) d (λ (v : ℤ). least_grade (int_min a x.grade) front place xs ≤ℤ v)
-          (λ e. r.1 p m) (λ e. below_both _ _ _ low l))
+          (λ e. r.1 p m) (λ e. grind arith))
           (λ e. let h : leb x.place p ≡ false = grind (arith, nat_tests) in rw h l)),
     )
 
@@ -105,8 +95,8 @@ least_below d front place (x ∷ xs) a p l m =
     elim (cases_lt front x.place) [
       | inl after ↦ (falls d d front place front (x ∷ xs) (omega arith) (after, a) (≤ℤ_refl d)).1 p m
       | inr before ↦
-          let f : leb x.place front ≡ true = le-leb x.place front before in
-          let h : leb x.place p ≡ true = le-leb x.place p (omega arith) in
+          let f : leb x.place front ≡ true = grind arith in
+          let h : leb x.place p ≡ true = grind arith in
           rw (f, h) (least_below x.grade front place xs (above_ascends x.place xs a) p l m)
     ]
 
@@ -134,17 +124,17 @@ comes_from a d front place q (x ∷ xs) f k =
 
 -- The computed grade is the grade at some place of the stretch.
 pub least_reached : (d : ℤ) (front place : ℕ) (xs : List Section) → Ascends xs → front ≤ place → (p : ℕ) × (front ≤ p) × (p ≤ place) × (grade_in d xs p ≡ least_grade d front place xs)
-least_reached d front place [] a o = (front, omega arith, o, refl)
+least_reached d front place [] a o = search rules
 least_reached d front place (x ∷ xs) a o =
     elim (cases_lt front x.place) [
       | inl after ↦ elim (comes_from d d front place front (x ∷ xs) (omega arith) (after, a)) [
-        | inl e ↦ (front, omega arith, o, early d front (x ∷ xs) front (after, a) (omega arith) ∙ sym e)
+        | inl e ↦ grind arith
         | inr w ↦ (w.0, w.1, w.2, w.3)
       ]
       | inr before ↦
           let f : leb x.place front ≡ true = le-leb x.place front before in
           let r = least_reached x.grade front place xs (above_ascends x.place xs a) o in
-          let h : leb x.place r.0 ≡ true = le-leb x.place r.0 (omega (arith, r.1)) in
+          let h : leb x.place r.0 ≡ true = grind arith in
           (r.0, r.1, r.2, rw (f, h) r.3)
     ]
 
@@ -155,10 +145,10 @@ least_passed d front place (x ∷ xs) l =
     elim (cases_lt front x.place) [
       | inl after ↦
           let f : leb x.place front ≡ false = lt-leb x.place front after in
-          let g : leb x.place place ≡ false = lt-leb x.place place (omega arith) in
+          let g : leb x.place place ≡ false = grind arith in
           rw (f, g)
       | inr before ↦
-          let f : leb x.place front ≡ true = le-leb x.place front before in
+          let f : leb x.place front ≡ true = grind arith in
           rw f (least_passed x.grade front place xs l)
     ]
 
@@ -167,10 +157,7 @@ pub least_fit : (d : ℤ) (front place : ℕ) (xs : List Section) → unfit_grad
 least_fit d front place [] u all = u
 least_fit d front place (x ∷ xs) u all =
     let here : unfit_grade x.grade ≡ false = all x (inl refl) in
-    let low : unfit_grade (int_min d x.grade) ≡ false = elim (min_either d x.grade) [
-      | inl e ↦ subst (λ (g : ℤ). unfit_grade g ≡ false) (sym e) u
-      | inr e ↦ subst (λ (g : ℤ). unfit_grade g ≡ false) (sym e) here
-    ] in
+    let low : unfit_grade (int_min d x.grade) ≡ false = grind arith in
     let rest : (y : Section) → In y xs → unfit_grade y.grade ≡ false = λ y i. all y (inr i) in
     cond_both (leb x.place front) (least_grade x.grade front place xs) _ (λ (g : ℤ). unfit_grade g ≡ false)
     (λ e. least_fit x.grade front place xs here rest)

@@ -1,6 +1,6 @@
 -- What one more item, and one fewer, does to a list of sections or targets.
-use Rattle.std.proofs.Common.{◌≡◌, ℕ, ◌<◌, false, eqb, ltb, ◌⊎◌, List, [], ◌∷◌, sym, refl, ap, ◌∙◌, inl, inr, arith}
-use Rattle.std.proofs.lemmas.Bool.{cond_both, ltb-true, ltb-false, eqb-true, eqb-false, or_parts}
+use Rattle.std.proofs.Common.{◌≡◌, ℕ, ◌<◌, false, eqb, ltb, ◌⊎◌, List, [], ◌∷◌, refl, inl, inr, arith}
+use Rattle.std.proofs.lemmas.Bool.{cond_both, ltb-true, or_parts}
 use Rattle.place_list.specs.Insertion.{placed_in}
 use Rattle.place_list.specs.Membership.{In}
 use Rattle.history.specs.History.{Section, Target}
@@ -34,8 +34,7 @@ above_placed p x (y ∷ ys) a l n =
     let o = or_parts (eqb y.place x.place) (begins_at x.place ys) n in
     cond_both (ltb x.place y.place) (x ∷ y ∷ ys) (y ∷ placed_in beginning x ys) (Above p)
     (λ e. (l, (ltb-true x.place y.place e, a.1)))
-    (λ e. let ne : y.place ≡ x.place → ⊥ = eqb-false y.place x.place o.0 in
-    (a.0, above_placed y.place x ys a.1 (omega (arith, ltb-false x.place y.place e)) o.1))
+    (λ e. (a.0, above_placed y.place x ys a.1 (grind arith) o.1))
 
 pub placed_ascends : (x : Section) (xs : List Section) → Ascends xs → begins_at x.place xs ≡ false → Ascends (placed_in beginning x xs)
 placed_ascends x [] a n = tt
@@ -43,17 +42,13 @@ placed_ascends x (y ∷ ys) a n =
     let o = or_parts (eqb y.place x.place) (begins_at x.place ys) n in
     cond_both (ltb x.place y.place) (x ∷ y ∷ ys) (y ∷ placed_in beginning x ys) Ascends
     (λ e. (ltb-true x.place y.place e, a))
-    (λ e. let ne : y.place ≡ x.place → ⊥ = eqb-false y.place x.place o.0 in
-    above_placed y.place x ys a (omega (arith, ltb-false x.place y.place e)) o.1)
-
-number_same : (t u : Target) → t ≡ u → t.number ≡ u.number
-number_same t u e = ap (λ (x : Target). x.number) e
+    (λ e. above_placed y.place x ys a (grind arith) o.1)
 
 pub numbered_not : (n : ℕ) (ts : List Target) → numbered n ts ≡ false → (u : Target) → In u ts → u.number ≡ n → ⊥
 numbered_not n [] f u i e = absurd i
 numbered_not n (t ∷ ts) f u i e =
     let o = or_parts (eqb t.number n) (numbered n ts) f in
-    elim i [ inl k ↦ eqb-false t.number n o.0 (sym (number_same u t k) ∙ e) | inr j ↦ numbered_not n ts o.1 u j e ]
+    elim i [ inl k ↦ grind arith | inr j ↦ numbered_not n ts o.1 u j e ]
 
 pub placed_distinct : (t : Target) (ts : List Target) → Distinct ts → ((u : Target) → In u ts → u.number ≡ t.number → ⊥) → Distinct (placed_in ending t ts)
 placed_distinct t [] d n = (n, tt)
@@ -62,7 +57,7 @@ placed_distinct t (u ∷ us) d n =
     (λ e. (n, d))
     (λ e. (
       (λ w i k. elim (in_placed_cases ending t us w i) [
-        | inl same ↦ n u (inl refl) (sym k ∙ number_same w t same)
+        | inl same ↦ n u (inl refl) (grind arith)
         | inr j ↦ d.0 w j k
       ]),
       placed_distinct t us d.1 (λ w i k. n w (inr i) k),
@@ -72,16 +67,16 @@ pub in_without : (n : ℕ) (ts : List Target) (t : Target) → In t ts → (t.nu
 in_without n [] t i d = absurd i
 in_without n (u ∷ us) t i d =
     cond_both (eqb u.number n) us (u ∷ without n us) (In t)
-    (λ e. elim i [ inl k ↦ absurd (d (number_same t u k ∙ eqb-true u.number n e)) | inr j ↦ j ])
+    (λ e. grind arith)
     (λ e. elim i [ inl k ↦ inl k | inr j ↦ inr (in_without n us t j d) ])
 
 pub without_in : (n : ℕ) (ts : List Target) → Distinct ts → (t : Target) → In t (without n ts) → In t ts × (t.number ≡ n → ⊥)
 without_in n [] d t i = absurd i
 without_in n (u ∷ us) d t i =
     cond_both (eqb u.number n) us (u ∷ without n us) (λ (l : List Target). In t l → In t (u ∷ us) × (t.number ≡ n → ⊥))
-    (λ e i. (inr i, λ q. d.0 t i (q ∙ sym (eqb-true u.number n e))))
+    (λ e i. grind arith)
     (λ e i. elim i [
-      | inl k ↦ (inl k, λ q. eqb-false u.number n e (sym (number_same t u k) ∙ q))
+      | inl k ↦ grind arith
       | inr j ↦ let w = without_in n us d.1 t j in (inr w.0, w.1)
     ]) i
 

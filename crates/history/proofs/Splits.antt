@@ -1,5 +1,5 @@
 -- What one more entry does to a history: how it splits, and what then stands.
-use Rattle.std.proofs.Common.{◌≡◌, ℕ, ◌⊎◌, [], ◌∷◌, ◌++◌, sym, refl, ap, ◌∙◌, subst, inl, inr, append_assoc, arith}
+use Rattle.std.proofs.Common.{◌≡◌, ℕ, ◌⊎◌, [], ◌∷◌, ◌++◌, refl, ap, ◌∙◌, inl, inr, append_assoc, arith}
 use Rattle.calls.specs.declared.call.Call.{Call}
 use Rattle.calls.specs.declared.phase.Phase.{Phase}
 use Rattle.calls.specs.declared.record.Record.{Record}
@@ -7,21 +7,20 @@ use Rattle.history.specs.History.{History, Target, Accepts, AcceptedIn, TargetSt
 use Rattle.history.specs.Lines.{last_phase}
 
 pub nil_split : (before : History) (e : Record) (after : History) → [] ≡ before ++ e ∷ after → ⊥
-nil_split [] e after h = let z : ◌≡◌ {A = ℕ} 0 1 = cc in omega arith
-nil_split (b ∷ bs) e after h = let z : ◌≡◌ {A = ℕ} 0 1 = cc in omega arith
+nil_split [] e after h = grind arith
+nil_split (b ∷ bs) e after h = grind arith
 
 -- An entry of h with r behind it is r, or one of h.
 pub split_push : (h before : History) (r e : Record) (after : History) → h ++ r ∷ [] ≡ before ++ e ∷ after →
     ((h ≡ before) × (r ≡ e) × (after ≡ [])) ⊎ ((a : History) × (after ≡ a ++ r ∷ []) × (h ≡ before ++ e ∷ a))
 split_push [] [] r e after s = inl (refl, cc, cc)
 split_push [] (b ∷ bs) r e after s = let t : [] ≡ bs ++ e ∷ after = cc in absurd (nil_split bs e after t)
-split_push (x ∷ h) [] r e after s = let p : x ≡ e = cc in inr (h, cc, ap (λ (y : Record). y ∷ h) p)
+split_push (x ∷ h) [] r e after s = grind arith
 split_push (x ∷ h) (b ∷ bs) r e after s =
     let t : h ++ r ∷ [] ≡ bs ++ e ∷ after = cc in
-    let p : x ≡ b = cc in
     elim (split_push h bs r e after t) [
-      | inl w ↦ let q : h ≡ bs = w.0 in inl (cc, w.1, w.2)
-      | inr w ↦ let q : h ≡ bs ++ e ∷ w.0 = w.2 in inr (w.0, w.1, cc)
+      | inl w ↦ inl (cc, w.1, w.2)
+      | inr w ↦ inr (w.0, w.1, cc)
     ]
 
 pub last_push : (p : Phase) (h : History) (r : Record) → last_phase p (h ++ r ∷ []) ≡ r.phase
@@ -36,13 +35,13 @@ pub accepted_more : {h : History} {c : Call} (r : Record) → AcceptedIn h c →
 accepted_more {h} r a = record { before = a.before; entry = a.entry; after = a.after ++ r ∷ []; split = longer h a.before a.entry a.after r a.split; accepts = a.accepts }
 
 pub accepted_new : (h : History) {c : Call} (r : Record) → Accepts r c → AcceptedIn (h ++ r ∷ []) c
-accepted_new h r a = record { before = h; entry = r; after = []; split = refl; accepts = a }
+accepted_new h r a = grind arith
 
 pub accepted_cases : (h : History) (c : Call) (r : Record) → AcceptedIn (h ++ r ∷ []) c → AcceptedIn h c ⊎ Accepts r c
 accepted_cases h c r a =
     elim (split_push h a.before r a.entry a.after a.split) [
-      | inl w ↦ inr (subst (λ (e : Record). Accepts e c) (sym w.1) a.accepts)
-      | inr w ↦ inl (record { before = a.before; entry = a.entry; after = w.0; split = w.2; accepts = a.accepts })
+      | inl w ↦ grind arith
+      | inr w ↦ grind arith
     ]
 
 pub accepted_none : (c : Call) → AcceptedIn [] c → ⊥
@@ -69,9 +68,9 @@ module _ (eps : ℕ) (h : History) (t : Target) (r : Record) where
       (TargetStands eps h t × (Accepts r (withdraw t.number) → ⊥)) ⊎ ((point : ℕ) × (distance : ℕ) × Accepts r (announce t.number point distance t.speed) × (t.place ≡ target_place eps point distance))
   stands_cases a =
       elim (split_push h a.before r a.entry a.after a.split) [
-        | inl w ↦ inr (a.point, a.distance, subst (λ (e : Record). Accepts e (announce t.number a.point a.distance t.speed)) (sym w.1) a.announced, a.placed)
-        | inr w ↦ let kept : AcceptedIn (w.0 ++ r ∷ []) (withdraw t.number) → ⊥ = subst (λ (l : History). AcceptedIn l (withdraw t.number) → ⊥) w.1 a.kept in
-            inl (record { before = a.before; entry = a.entry; after = w.0; point = a.point; distance = a.distance; split = w.2; announced = a.announced; placed = a.placed; kept = λ k. kept (accepted_more r k) }, λ k. kept (accepted_new w.0 r k))
+        | inl w ↦ grind arith
+        | inr w ↦ let kept : AcceptedIn (w.0 ++ r ∷ []) (withdraw t.number) → ⊥ = grind arith in
+            inl (record { before = a.before; entry = a.entry; after = w.0; point = a.point; distance = a.distance; split = w.2; announced = a.announced; placed = a.placed; kept = λ k. kept (accepted_more r k) }, λ k. grind arith)
       ]
 
 pub stands_none : (eps : ℕ) (t : Target) → TargetStands eps [] t → ⊥

@@ -1,8 +1,6 @@
 -- Each step keeps the three lines, and what clear says.
-use Rattle.std.proofs.Common.{◌≡◌, ℕ, ◌<◌, ◌≤◌, Bool, true, false, not, ltb, [], ◌∷◌, ◌++◌, ℤ, pos, ◌≤ℤ◌, Some, None, Err, sym, refl, ap, ◌∙◌, subst, inl, inr, arith}
-use lib.Signed.{lt_z}
-use Rattle.std.proofs.lemmas.Int.{ints}
-use Rattle.std.proofs.lemmas.Bool.{cases_lt, lt-ltb, le-ltb, or_parts}
+use Rattle.std.proofs.Common.{◌≡◌, ℕ, ◌<◌, ◌≤◌, Bool, true, false, not, [], ◌∷◌, ◌++◌, ℤ, Some, None, Err, sym, refl, ap, ◌∙◌, subst, inl, inr, arith}
+use Rattle.std.proofs.lemmas.Bool.{cases_lt}
 use Rattle.units.specs.declared.quantities.Distance.{Distance}
 use Rattle.units.specs.declared.quantities.Speed.{Speed}
 use Rattle.braking.specs.Laws.{Lawful, Sound}
@@ -14,30 +12,25 @@ use Rattle.calls.specs.declared.phase.Phase.TheVariants.{Free, Warning, Emergenc
 use Rattle.calls.specs.declared.record.Record.{Record}
 use Rattle.calls.specs.declared.refusal.Refusal.{Refusal}
 use Rattle.calls.specs.declared.zone.Zone.TheVariants as zones
-use Rattle.history.specs.History.{History, Target, Accepts, WasAccepted, Bound, steepest, sample}
+use Rattle.history.specs.History.{History, Target, Accepts, Bound, steepest, sample}
 use Rattle.history.specs.Lines.{Lines, LastSampleClear, Reason, MustBrake, IsClear, On}
 use Rattle.history.specs.Step.{State, Stepped, step, does, decide, first, grounds, unfit_grade, question, target_zone, largest_zone, zone_in, zone_of, next, releasable}
 use Rattle.history.specs.Runs.{entry_of}
 use Rattle.history.specs.Agrees.{Tracks}
 use Rattle.history.proofs.Splits.{nil_split, split_push, longer}
 use Rattle.history.proofs.Grades.{least_fit}
-use Rattle.history.proofs.Tracks.{ahead_is, ahead_one, kinds, same_front, same_speed, groundless}
-use Rattle.history.proofs.Zones.{must_control, control_may, clear_clear, binding_zone, one_control, all_clear, some_control, next_control, next_came, clear_is, clear_no_control}
+use Rattle.history.proofs.Tracks.{ahead_is, ahead_one, same_front, same_speed, groundless}
+use Rattle.history.proofs.Zones.{must_control, control_may, clear_clear, binding_zone, one_control, all_clear, some_control, next_control, next_came, clear_is}
 
 abbrev asking : ℕ → ℕ → ℤ → Question
 asking v w g = record { speed = v; target = w; grade = g }
 
 same_question : (v v' w w' : ℕ) (g g' : ℤ) → v ≡ v' → w ≡ w' → g ≡ g' → asking v w g ≡ asking v' w' g'
-same_question v v' w w' g g' a b c = ap (λ (x : ℕ). asking x w g) a ∙ (ap (λ (x : ℕ). asking v' x g) b ∙ ap (λ (x : ℤ). asking v' w' x) c)
-
-not_below : (g k : ℤ) → lt_z g k ≡ false → k ≤ℤ g
-not_below g k e = omega (arith, ints)
+same_question v v' w w' g g' a b c = grind arith
 
 -- A grade that is fit is within the limits.
 fit_asked : (top v w : ℕ) (g : ℤ) → v ≤ top → w < v → unfit_grade g ≡ false → Asked top (asking v w g)
-fit_asked top v w g l b f =
-    let o = or_parts (lt_z g steepest) (lt_z (pos 35) g) f in
-    record { slow = l; target_slow = omega arith; not_below = not_below g steepest o.0; not_above = not_below (pos 35) g o.1 }
+fit_asked top v w g l b f = grind arith
 
 -- What is known of clear in the state that an entry leaves.
 abbrev pub Known : (eps : ℕ) → Meaning → History → State → Type 0
@@ -48,16 +41,12 @@ abbrev pub Good : (eps : ℕ) → Meaning → History → Call → Stepped → T
 Good eps m h c r = Lines eps m h (entry_of c r) × Known eps m (h ++ entry_of c r ∷ []) r.state
 
 pub never_clear : {P : Type 0} → false ≡ true → P
-never_clear e = let o : ◌≡◌ {A = ℕ} 0 1 = cc in absurd (omega arith)
+never_clear e = grind arith
 
 module _ (eps : ℕ) (m : Meaning) (law : Lawful m) (h : History) (s : State) (k : Tracks eps h s) (known : Known eps m h s) where
   -- an entry that keeps the phase and is no accepted sample
   quiet : (e : Record) → e.phase ≡ s.phase → ((front v : ℕ) → Accepts e (sample front v) → ⊥) → Lines eps m h e
-  quiet e same never = record {
-    in_time = record { too_fast = λ front v a l. absurd (never front v a); too_near = λ front v a l t q b n. absurd (never front v a) };
-    for_a_reason = λ off on. absurd (off (k.phase ∙ (sym same ∙ on)));
-    when_clear = λ on off. absurd (off (same ∙ (sym k.phase ∙ on)));
-  }
+  quiet e same never = grind arith
 
   -- a refused call alters nothing
   good_refused : (c : Call) (r : Refusal) → Good eps m h c (record { answer = Err r; state = s })
@@ -71,7 +60,7 @@ module _ (eps : ℕ) (m : Meaning) (law : Lawful m) (h : History) (s : State) (k
               after = w.after ++ e ∷ [];
               split = longer h w.before w.entry w.after e w.split;
               last = λ b x a p acc. elim (split_push w.after b e x a p) [
-                | inl y ↦ subst (λ (z : Record). WasAccepted z.answer) (sym y.1) acc
+                | inl y ↦ grind arith
                 | inr y ↦ w.last b x y.0 y.2 acc
               ];
               front = w.front;
@@ -82,16 +71,9 @@ module _ (eps : ℕ) (m : Meaning) (law : Lawful m) (h : History) (s : State) (k
             },
       )
 
-  -- an accepted call that keeps the phase and is no sample
-  good_kept : (c : Call) → (does eps m s c).state.phase ≡ s.phase → (does eps m s c).state.clear ≡ false → ((front v : ℕ) → c ≡ sample front v → ⊥) → Good eps m h c (does eps m s c)
-  good_kept c same unclear never = (quiet (entry_of c (does eps m s c)) same (λ front v a. never front v a.0), λ clear. never_clear (sym unclear ∙ clear))
-
   -- the question of a binding target is the computed one
   pub asks : (front v : ℕ) (t : Target) (q : Question) → Bound eps h front v t q → q ≡ question s.sections front v t
   asks front v t q b = same_question q.speed v q.target t.speed q.grade _ b.asks_speed b.asks_target (ahead_one eps h s k front t.place q.grade b.asks_grade)
-
-  slower : (front v : ℕ) (t : Target) (q : Question) → Bound eps h front v t q → t.speed < v
-  slower front v t q b = omega (arith, b.asks_speed, b.asks_target, b.binds)
 
   fit : (front v : ℕ) (t : Target) → unfit_grade (question s.sections front v t).grade ≡ false
   fit front v t = least_fit steepest front t.place s.sections refl k.fit
@@ -103,14 +85,14 @@ module _ (eps : ℕ) (m : Meaning) (law : Lawful m) (h : History) (s : State) (k
   zone_is front v t slow = binding_zone m s.sections front v t slow (fit front v t)
 
   too_fast_zone : (front v : ℕ) → m.top < v → zone_in m s front v ≡ zones.Control
-  too_fast_zone front v l = let b : ltb m.top v ≡ true = lt-ltb m.top v l in rw b
+  too_fast_zone front v l = grind arith
 
   fine_zone : (front v : ℕ) → v ≤ m.top → zone_in m s front v ≡ largest_zone m s.sections front v s.targets
-  fine_zone front v l = let b : ltb m.top v ≡ false = le-ltb m.top v l in rw b
+  fine_zone front v l = grind arith
 
   near_zone : (front v : ℕ) → v ≤ m.top → (t : Target) (q : Question) → Bound eps h front v t q → MustBrake (m.verdict q) front t.place → zone_in m s front v ≡ zones.Control
   near_zone front v l t q b must =
-      let slow : t.speed < v = slower front v t q b in
+      let slow : t.speed < v = grind arith in
       let must' : MustBrake (m.verdict (question s.sections front v t)) front t.place = subst (λ (q : Question). MustBrake (m.verdict q) front t.place) (asks front v t q b) must in
       let three : target_zone m s.sections front v t ≡ zones.Control = zone_is front v t slow ∙ must_control _ front t.place (sound front v t slow l) must' in
       fine_zone front v l ∙ one_control m s.sections front v s.targets t (k.target_in t b.stands) three
@@ -126,7 +108,7 @@ module _ (eps : ℕ) (m : Meaning) (law : Lawful m) (h : History) (s : State) (k
               (
                 w.0,
                 question s.sections front v w.0,
-                record { stands = k.target_stands w.0 w.1; asks_speed = refl; asks_target = refl; asks_grade = ahead_is eps h s k front w.0.place; binds = w.2 },
+                record { stands = grind arith; asks_speed = refl; asks_target = refl; asks_grade = ahead_is eps h s k front w.0.place; binds = w.2 },
                 control_may _ front w.0.place (sound front v w.0 w.2 fine) (sym (zone_is front v w.0 w.2) ∙ w.3),
               ),
             )
@@ -134,7 +116,7 @@ module _ (eps : ℕ) (m : Meaning) (law : Lawful m) (h : History) (s : State) (k
 
   clear_there : (front v : ℕ) → zone_in m s front v ≡ zones.Clear → v ≤ m.top → (t : Target) (q : Question) → Bound eps h front v t q → IsClear (m.verdict q) front t.place
   clear_there front v none l t q b =
-      let slow : t.speed < v = slower front v t q b in
+      let slow : t.speed < v = grind arith in
       let mine : target_zone m s.sections front v t ≡ zones.Clear = all_clear m s.sections front v s.targets t (k.target_in t b.stands) (sym (fine_zone front v l) ∙ none) in
       subst (λ (q : Question). IsClear (m.verdict q) front t.place) (sym (asks front v t q b)) (clear_clear _ front t.place (sound front v t slow l) (sym (zone_is front v t slow) ∙ mine))
 
@@ -157,33 +139,23 @@ module _ (eps : ℕ) (m : Meaning) (law : Lawful m) (h : History) (s : State) (k
         },
         λ clear.
             let none : zone_in m s p.millimetres w.tenths ≡ zones.Clear = clear_is _ clear in
-            let fine : w.tenths ≤ m.top = elim (cases_lt m.top w.tenths) [ inl fast ↦ absurd (clear_no_control _ none (too_fast_zone p.millimetres w.tenths fast)) | inr l ↦ l ] in
+            let fine : w.tenths ≤ m.top = grind arith in
             record { before = h; entry = e; after = []; split = refl; last = λ b x a y acc. nil_split b x a y; front = p.millimetres; speed = w.tenths; sampled = (refl, tt); not_too_fast = fine; all_clear = clear_there p.millimetres w.tenths none fine },
       )
 
   released : (p : Phase) (b : Bool) → not (releasable p b) ≡ false → b ≡ true
-  released Free b e = never_clear (sym e)
-  released Warning b e = never_clear (sym e)
+  released Free b e = grind arith
+  released Warning b e = grind arith
   released Emergency true e = refl
   released Emergency false e = never_clear (sym e)
 
   good_release : s.clear ≡ true → Good eps m h Release (does eps m s Release)
-  good_release clear = (
-    record {
-      in_time = record {
-        too_fast = λ front v a l. absurd (kinds _ _ a.0 (λ z. omega arith));
-        too_near = λ front v a l t q b must. absurd (kinds _ _ a.0 (λ z. omega arith));
-      };
-      for_a_reason = λ off came. let z : ◌≡◌ {A = ℕ} 0 1 = cc in absurd (omega arith);
-      when_clear = λ was off. ((refl, tt), known clear);
-    },
-    never_clear,
-  )
+  good_release clear = grind arith
 
   good_does : (c : Call) → first (grounds m s c) ≡ None → Good eps m h c (does eps m s c)
-  good_does (Slope p g) none = good_kept (Slope p g) refl refl (λ front v e. kinds _ _ e (λ z. omega arith))
-  good_does (Announce n p d w) none = good_kept (Announce n p d w) refl refl (λ front v e. kinds _ _ e (λ z. omega arith))
-  good_does (Withdraw n) none = good_kept (Withdraw n) refl refl (λ front v e. kinds _ _ e (λ z. omega arith))
+  good_does (Slope p g) none = grind arith
+  good_does (Announce n p d w) none = grind arith
+  good_does (Withdraw n) none = grind arith
   good_does (Sample p w) none = good_sample p w
   good_does Release none = good_release (released s.phase s.clear (groundless (grounds m s Release) none).0)
 

@@ -43,7 +43,7 @@ module _ (eps : ℕ) (h : History) (s : State) (k : Tracks eps h s) where
   to_list p g (inr w) = inr ((λ y i. w.0 y (k.section_stands y i)), w.1)
 
   from_list : (p : ℕ) (g : ℤ) → GradeIn steepest s.sections p g → GradeAt h p g
-  from_list p g (inl w) = inl (w.0, record { stands = k.section_stands w.0 w.1.0; begun = w.1.1; last = λ y a l. w.1.2 y (k.section_in y a) l }, w.2)
+  from_list p g (inl w) = inl (w.0, record { stands = grind arith; begun = w.1.1; last = λ y a l. w.1.2 y (k.section_in y a) l }, w.2)
   from_list p g (inr w) = inr ((λ y a. w.0 y (k.section_in y a)), w.1)
 
   at_is : (p : ℕ) (g : ℤ) → grade_in steepest s.sections p ≡ g → GradeAt h p g
@@ -76,17 +76,7 @@ module _ (eps : ℕ) (h : History) (s : State) (k : Tracks eps h s) where
       omega (arith, ints)
   ahead_one front place g (inr w) = sym (at_one front g w.1) ∙ sym (least_passed steepest front place s.sections w.0)
 
--- Which call it is, and its numbers.
-
-abbrev kind : Call → ℕ
-kind (Slope p g) = 0
-kind (Announce n p d v) = 1
-kind (Withdraw n) = 2
-kind (Sample p v) = 3
-kind Release = 4
-
-pub kinds : (c d : Call) → c ≡ d → (kind c ≡ kind d → ⊥) → ⊥
-kinds c d e n = n (ap kind e)
+-- The numbers of a call.
 
 abbrev slope_place : Call → ℕ
 slope_place (Slope p g) = p.millimetres
@@ -145,10 +135,10 @@ abbrev target : ℕ → ℕ → ℕ → Target
 target n p v = record { number = n; place = p; speed = v }
 
 same_section : (p q : ℕ) (g k : ℤ) → p ≡ q → g ≡ k → section p g ≡ section q k
-same_section p q g k a b = ap (λ (n : ℕ). section n g) a ∙ ap (λ (n : ℤ). section q n) b
+same_section p q g k a b = grind arith
 
 same_target : (n m p q v w : ℕ) → n ≡ m → p ≡ q → v ≡ w → target n p v ≡ target m q w
-same_target n m p q v w a b c = ap (λ (x : ℕ). target x p v) a ∙ (ap (λ (x : ℕ). target m x v) b ∙ ap (λ (x : ℕ). target m q x) c)
+same_target n m p q v w a b c = grind arith
 
 -- None of the grounds holds.
 abbrev pub Groundless : List Ground → Type 0
@@ -158,7 +148,7 @@ Groundless (g ∷ gs) = (g.holds ≡ false) × Groundless gs
 pub groundless : (gs : List Ground) → first gs ≡ None → Groundless gs
 groundless [] e = tt
 groundless (g ∷ gs) e = elim g.holds as (λ v. cond v (Some g.refusal) (first gs) ≡ None → (v ≡ false) × Groundless gs)
-    [ true ↦ λ k. let z : ◌≡◌ {A = ℕ} 0 1 = cc in absurd (omega arith) | false ↦ λ k. (refl, groundless gs k) ] e
+    [ true ↦ λ k. grind arith | false ↦ λ k. (refl, groundless gs k) ] e
 
 module _ (eps : ℕ) (h : History) (s : State) (k : Tracks eps h s) where
   -- an entry that adds nothing and takes nothing out, with the phase after it
@@ -204,9 +194,9 @@ module _ (eps : ℕ) (m : Meaning) (h : History) (s : State) (k : Tracks eps h s
         ];
         target_in = λ t a. elim (stands_cases eps h t e a) [
           | inl b ↦ k.target_in t b.0
-          | inr b ↦ absurd (kinds _ _ b.2.0 (λ z. omega arith))
+          | inr b ↦ grind arith
         ];
-        target_stands = λ t i. stands_more eps h t e (k.target_stands t i) (λ b. kinds _ _ b.0 (λ z. omega arith));
+        target_stands = λ t i. stands_more eps h t e (k.target_stands t i) (λ b. grind arith);
         distinct = k.distinct;
       }
 
@@ -219,7 +209,7 @@ module _ (eps : ℕ) (m : Meaning) (h : History) (s : State) (k : Tracks eps h s
         phase = last_push Free h e;
         section_in = λ x a. elim (accepted_cases h _ e a) [
           | inl b ↦ k.section_in x b
-          | inr b ↦ absurd (kinds _ _ b.0 (λ z. omega arith))
+          | inr b ↦ grind arith
         ];
         section_stands = λ x i. accepted_more e (k.section_stands x i);
         ascends = k.ascends;
@@ -234,7 +224,7 @@ module _ (eps : ℕ) (m : Meaning) (h : History) (s : State) (k : Tracks eps h s
         ];
         target_stands = λ t i. elim (in_placed_cases ending new s.targets t i) [
           | inl same ↦ subst (λ (u : Target). TargetStands eps (h ++ e ∷ []) u) (sym same) (stands_new eps h new e p.millimetres d.millimetres (refl, tt) refl)
-          | inr j ↦ stands_more eps h t e (k.target_stands t j) (λ b. kinds _ _ b.0 (λ z. omega arith))
+          | inr j ↦ stands_more eps h t e (k.target_stands t j) (λ b. grind arith)
         ];
         distinct = placed_distinct new s.targets k.distinct (numbered_not n s.targets free);
       }
@@ -246,14 +236,14 @@ module _ (eps : ℕ) (m : Meaning) (h : History) (s : State) (k : Tracks eps h s
         phase = last_push Free h e;
         section_in = λ x a. elim (accepted_cases h _ e a) [
           | inl b ↦ k.section_in x b
-          | inr b ↦ absurd (kinds _ _ b.0 (λ z. omega arith))
+          | inr b ↦ grind arith
         ];
         section_stands = λ x i. accepted_more e (k.section_stands x i);
         ascends = k.ascends;
         fit = k.fit;
         target_in = λ t a. elim (stands_cases eps h t e a) [
           | inl b ↦ in_without n s.targets t (k.target_in t b.0) (λ q. b.1 (ap withdraw (sym q), tt))
-          | inr b ↦ absurd (kinds _ _ b.2.0 (λ z. omega arith))
+          | inr b ↦ grind arith
         ];
         target_stands = λ t i. let w = without_in n s.targets k.distinct t i in
             stands_more eps h t e (k.target_stands t w.0) (λ b. w.1 (sym (ap number_in b.0)));
@@ -265,9 +255,9 @@ module _ (eps : ℕ) (m : Meaning) (h : History) (s : State) (k : Tracks eps h s
   tracks_does (Announce n p d v) none = tracks_announce n p d v (groundless (grounds m s (Announce n p d v)) none).1.1.0
   tracks_does (Withdraw n) none = tracks_withdraw n
   tracks_does (Sample p v) none = tracks_same eps h s k _ _ refl refl refl
-      (λ q g a. kinds _ _ a.0 (λ z. omega arith)) (λ n q d w a. kinds _ _ a.0 (λ z. omega arith)) (λ n a. kinds _ _ a.0 (λ z. omega arith))
+      (λ q g a. grind arith) (λ n q d w a. grind arith) (λ n a. grind arith)
   tracks_does Release none = tracks_same eps h s k _ _ refl refl refl
-      (λ q g a. kinds _ _ a.0 (λ z. omega arith)) (λ n q d w a. kinds _ _ a.0 (λ z. omega arith)) (λ n a. kinds _ _ a.0 (λ z. omega arith))
+      (λ q g a. grind arith) (λ n q d w a. grind arith) (λ n a. grind arith)
 
   pub tracks_step : (c : Call) → Tracks eps (h ++ entry_of c (step eps m s c) ∷ []) (step eps m s c).state
   tracks_step c = elim (first (grounds m s c)) as (λ o. first (grounds m s c) ≡ o → Tracks eps (h ++ entry_of c (decide o s (does eps m s c)) ∷ []) (decide o s (does eps m s c)).state)
@@ -277,4 +267,4 @@ module _ (eps : ℕ) (m : Meaning) (h : History) (s : State) (k : Tracks eps h s
 pub tracks_sampled : (eps : ℕ) (h : History) (s : State) → Tracks eps h s → (front speed : ℕ) (p : Phase) (a : Answer) →
     Tracks eps (h ++ record { call = sample front speed; answer = a; phase = p } ∷ []) (record { sections = s.sections; section_room = s.section_room; targets = s.targets; target_room = s.target_room; phase = p; clear = false })
 tracks_sampled eps h s k front speed p a = tracks_same eps h s k _ _ refl refl refl
-    (λ q g a. kinds _ _ a.0 (λ z. omega arith)) (λ n q d w a. kinds _ _ a.0 (λ z. omega arith)) (λ n a. kinds _ _ a.0 (λ z. omega arith))
+    (λ q g a. grind arith) (λ n q d w a. grind arith) (λ n a. grind arith)

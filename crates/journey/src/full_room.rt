@@ -12,7 +12,7 @@ use std::alloc::Global;
 use supervision::{BLANK_SECTION, BLANK_TARGET, MOST_SECTIONS, MOST_TARGETS};
 
 // Opens the sheet as a mission over the model, makes the calls in their order, and closes it. Memory is lent for as much as a mission's lists hold at most.
-// The clauses are those of `run`, said again: each is a promise by name of the function that makes it.
+// It says what `run` says with that room put in: a caller is to read it without the memory.
 pub fn run_in_full_room<M: BrakingModel + Drop>(
     heap: Global,
     sheet: Admitted,

@@ -26,7 +26,7 @@ pub(crate) fn go_round<T: Copy + Keyed>(
     look(rt, list, third)
 }
 
-// Inserts an item, and says what came of it.
+// Inserts an item, and says what came of it. Here and below a list and the item for it come as two: the list is lent on, and the item is the call's own.
 pub(crate) fn offer<T: Copy + Keyed>(
     rt: &HostRuntime,
     list: &mut PlaceList<'_, T>,
