@@ -1,7 +1,7 @@
 ghost use Rattle.std.specs.Prelude.{◌≡◌, ◌+◌, ◌%◌};
 ghost use Rattle.numerals.specs.Digits.{Stands};
 
-// What a byte stands for, if it is a digit.
+// What a byte stands for, if it is a digit. Alike to `end_within` by chance: a checked step and a filter.
 pub(crate) fn digit_value(byte: u8) -> Option<u8>
     ensures { Stands byte result }
 {

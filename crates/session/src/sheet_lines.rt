@@ -10,7 +10,7 @@ pub fn sheet_end(text: &[u8]) -> usize
 {
     let mut rest = text.iter();
     for _line in 0..SHEET_LINES {
-        // this leaves what is behind the next line feed, or nothing
+        // a count of searches and no index: each leaves what is behind the next line feed, or nothing
         rest.find(|byte| **byte == b'\n');
     }
     text.len() - rest.len()
