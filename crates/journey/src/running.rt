@@ -15,7 +15,6 @@ use units::Grade;
 use zones::Target;
 
 // Opens the sheet as a mission over the model, makes the calls in their order, with its lists over the memory that is lent, and closes it.
-// The heap and the calls come one by one, here and in the two functions like it: a struct of both would be built for one call and taken apart in it.
 pub fn run<M: BrakingModel + Drop>(
     heap: Global,
     sheet: Admitted,

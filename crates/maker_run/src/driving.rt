@@ -6,12 +6,13 @@ ghost use Rattle.constant_brake.specs.Formulas.{meaning_of};
 
 use calls::Call;
 use constant_brake::ConstantBrake;
-use journey::{Journey, run_in_full_room};
+use journey::{Journey, run};
 use sheet::Admitted;
 use std::alloc::Global;
+use supervision::{BLANK_SECTION, BLANK_TARGET, MOST_SECTIONS, MOST_TARGETS};
 
 // Opens the sheet with the brake, makes the calls and closes it. The mission's law holds for this brake, by the call's own contract.
-// The clauses are those of that call, said of this brake: whoever assesses it reads them here.
+// It lends the memory, as the program `mission` does: what a mission is run in is its caller's.
 pub(crate) fn drive(heap: Global, sheet: Admitted, brake: ConstantBrake, calls: &[Call]) -> Journey
     ensures calls { IfOk result.records (λ v. map (λ e. e.call) v.items ≡ calls.now) }
     ensures history { IfOk result.records (λ v. v.items ≡ history_of sheet.values.eps (meaning_of brake.stated brake.lead.tw brake.lead.ti) (start 64 32) calls.now) }
@@ -19,5 +20,7 @@ pub(crate) fn drive(heap: Global, sheet: Admitted, brake: ConstantBrake, calls: 
     ensures grades { IfOk result.records (λ v. GivesOneGrade v.items) }
     ensures draft { result.draft.values ≡ sheet.values }
 {
-    run_in_full_room(heap, sheet, brake, calls)
+    let mut sections = [BLANK_SECTION; MOST_SECTIONS];
+    let mut targets = [BLANK_TARGET; MOST_TARGETS];
+    run(heap, sheet, brake, &mut sections, &mut targets, calls)
 }

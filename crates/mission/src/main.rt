@@ -1,13 +1,16 @@
 #![tactic(auto)]
 
 // Runs a mission: the standard input holds a train sheet of twelve lines and then call lines; each call line is answered in its turn.
+use calls::{Call, Record};
 use input::{ONE_TEXT, read_most};
-use journey::{Journey, run_in_full_room};
+use journey::{Journey, run};
 use models::SheetModel;
 use session::{answers, calls_in, read_lines, sheet_end};
-use sheet::Draft;
+use sheet::{Admitted, Draft};
 use sheet_text::read_admitted;
+use std::alloc::AllocError;
 use std::io;
+use supervision::{BLANK_SECTION, BLANK_TARGET, MOST_SECTIONS, MOST_TARGETS};
 
 fn main(rt: HostRuntime) -> io::Result<()> {
     let text = read_most(rt.alloc(), rt.stdin(), ONE_TEXT)?;
@@ -19,13 +22,25 @@ fn main(rt: HostRuntime) -> io::Result<()> {
         Ok(sheet) => sheet,
         Err(fault) => return println!(rt; "{fault}"),
     };
-    let model = SheetModel::new(&sheet);
-    let Journey {
-        records,
-        draft: Draft { values: _ },
-    } = run_in_full_room(rt.alloc(), sheet, model, calls.as_slice());
-    for shown in answers(rt.alloc(), lines.as_slice(), records?.as_slice())?.as_slice() {
+    let records = make_calls(&rt, sheet, calls.as_slice())?;
+    for shown in answers(rt.alloc(), lines.as_slice(), records.as_slice())?.as_slice() {
         println!(rt; "{shown}")?;
     }
     Ok(())
+}
+
+// Makes the calls in a mission with the model that the sheet names. The program lends the memory: what a mission is run in is its caller's.
+fn make_calls(
+    rt: &HostRuntime,
+    sheet: Admitted,
+    calls: &[Call],
+) -> Result<Vec<Record>, AllocError> {
+    let model = SheetModel::new(&sheet);
+    let mut sections = [BLANK_SECTION; MOST_SECTIONS];
+    let mut targets = [BLANK_TARGET; MOST_TARGETS];
+    let Journey {
+        records,
+        draft: Draft { values: _ },
+    } = run(rt.alloc(), sheet, model, &mut sections, &mut targets, calls);
+    records
 }
