@@ -5,7 +5,7 @@ use call_lines::read_call;
 use input::{MANY_TEXTS, TEXT_END, ended_texts, read_most};
 use std::io;
 
-fn show(rt: &HostRuntime, text: &[u8]) -> io::Result<()> {
+fn show(rt: &impl Print, text: &[u8]) -> io::Result<()> {
     let line = read_call(text);
     match line.call {
         Ok(call) => print!(rt; "{call}")?,
@@ -14,7 +14,7 @@ fn show(rt: &HostRuntime, text: &[u8]) -> io::Result<()> {
     println!(rt; " next={}", line.next)
 }
 
-// As in the program for the texts of sheets, but for what is shown: the two have no crate in common that could show either.
+// As in the program for the texts of sheets, but for what is shown: a function of both would be passed what prints, and no clause could say what that prints.
 fn main(rt: HostRuntime) -> io::Result<()> {
     let texts = read_most(rt.alloc(), rt.stdin(), MANY_TEXTS)?;
     for text in ended_texts(rt.alloc(), texts.as_slice(), TEXT_END)?.as_slice() {

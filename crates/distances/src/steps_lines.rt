@@ -4,7 +4,7 @@ use std::io;
 
 // A question with each of its steps, or the number of its refusal.
 pub(crate) fn show_steps(
-    rt: &HostRuntime,
+    rt: &impl Print,
     model: &SheetModel,
     question: Question,
 ) -> io::Result<()> {

@@ -6,8 +6,8 @@ use units::{Grade, Speed};
 // The grades of the table, in the order of its rows.
 const GRADES: [i64; 7] = [-35, -21, -20, -10, 0, 10, 35];
 
-// One row: the model is the table's, the speed and the grade are the row's.
-fn show_row(rt: &HostRuntime, model: &SheetModel, speed: u64, grade: i64) -> io::Result<()> {
+// One row. The parts come one by one: a struct of model and numbers would be built for this call alone.
+fn show_row(rt: &impl Print, model: &SheetModel, speed: u64, grade: i64) -> io::Result<()> {
     let question = Question {
         speed: Speed { tenths: speed },
         target: Speed { tenths: 0 },
@@ -28,7 +28,7 @@ fn show_row(rt: &HostRuntime, model: &SheetModel, speed: u64, grade: i64) -> io:
 }
 
 // For a stop, a row for each speed in steps of 10 km/h up to the top, and at each speed for each grade.
-pub(crate) fn show_table(rt: &HostRuntime, model: &SheetModel) -> io::Result<()> {
+pub(crate) fn show_table(rt: &impl Print, model: &SheetModel) -> io::Result<()> {
     println!(rt; "speed grade control warning nominal")?;
     for speed in (100..=model.top_speed().speed.tenths).step_by(100) {
         for grade in &GRADES {

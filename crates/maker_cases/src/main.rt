@@ -17,15 +17,16 @@ fn main(rt: HostRuntime) -> io::Result<()> {
             let Draft { values: _ } = sheet.into_draft();
             shown
         }
-        Err(rejected) => {
-            let Rejected { refusal: _, draft } = rejected;
-            let Draft { values: _ } = draft;
-            println!(rt; "not admitted")
-        }
+        Err(
+            Rejected {
+                refusal: _,
+                draft: Draft { values: _ },
+            },
+        ) => println!(rt; "not admitted"),
     }
 }
 
-fn show_brakes(rt: &HostRuntime, sheet: &Admitted) -> io::Result<()> {
+fn show_brakes(rt: &impl Print, sheet: &Admitted) -> io::Result<()> {
     for stated in &BRAKES {
         show_brake(rt, *stated, sheet)?;
     }
@@ -33,7 +34,7 @@ fn show_brakes(rt: &HostRuntime, sheet: &Admitted) -> io::Result<()> {
 }
 
 // What a maker states, then why it makes no brake, or a line for each question.
-fn show_brake(rt: &HostRuntime, stated: BrakeData, sheet: &Admitted) -> io::Result<()> {
+fn show_brake(rt: &impl Print, stated: BrakeData, sheet: &Admitted) -> io::Result<()> {
     println!(rt;
         "deceleration={} reaction={} top={}",
         stated.deceleration, stated.reaction, stated.top.tenths
@@ -44,7 +45,7 @@ fn show_brake(rt: &HostRuntime, stated: BrakeData, sheet: &Admitted) -> io::Resu
     }
 }
 
-fn show_questions(rt: &HostRuntime, brake: &ConstantBrake) -> io::Result<()> {
+fn show_questions(rt: &impl Print, brake: &ConstantBrake) -> io::Result<()> {
     for (speed, target, grade) in &QUESTIONS {
         let question = Question {
             speed: Speed { tenths: *speed },

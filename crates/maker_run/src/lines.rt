@@ -9,7 +9,7 @@ use zones::{Stretch, target_place};
 
 // A call, for a sample the question that its target is judged by, and what the call was answered.
 pub(crate) fn show_record(
-    rt: &HostRuntime,
+    rt: &impl Print,
     brake: &ConstantBrake,
     record: Record,
 ) -> io::Result<()> {
@@ -22,7 +22,7 @@ pub(crate) fn show_record(
 
 // The question for the target at a sample: its grade, the distance left, and what the brake answers.
 fn show_question(
-    rt: &HostRuntime,
+    rt: &impl Print,
     brake: &ConstantBrake,
     front: Distance,
     speed: Speed,
@@ -49,7 +49,7 @@ fn show_question(
     println!(rt; "{answer}")
 }
 
-fn show_answer(rt: &HostRuntime, record: Record) -> io::Result<()> {
+fn show_answer(rt: &impl Print, record: Record) -> io::Result<()> {
     let phase = record.phase;
     let traction = if phase.cuts_traction() { "cut" } else { "on" };
     let brake = if phase.applies_brake() { "on" } else { "off" };

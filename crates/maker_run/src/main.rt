@@ -16,16 +16,17 @@ use std::io;
 fn main(rt: HostRuntime) -> io::Result<()> {
     match (Draft { values: SHEET }).admit() {
         Ok(sheet) => open(&rt, sheet),
-        Err(rejected) => {
-            let Rejected { refusal, draft } = rejected;
-            let Draft { values: _ } = draft;
-            println!(rt; "{refusal}")
-        }
+        Err(
+            Rejected {
+                refusal,
+                draft: Draft { values: _ },
+            },
+        ) => println!(rt; "{refusal}"),
     }
 }
 
 // The mission of the sheet with the maker's brake.
-fn open(rt: &HostRuntime, sheet: Admitted) -> io::Result<()> {
+fn open(rt: &(impl Print + AllocGlobal), sheet: Admitted) -> io::Result<()> {
     match ConstantBrake::new(BRAKE, &sheet) {
         Ok(brake) => follow(rt, sheet, brake),
         Err(refusal) => {
@@ -36,9 +37,15 @@ fn open(rt: &HostRuntime, sheet: Admitted) -> io::Result<()> {
 }
 
 // Makes the calls of the script, and shows the record of each.
-fn follow(rt: &HostRuntime, sheet: Admitted, brake: ConstantBrake) -> io::Result<()> {
-    let Journey { records, draft } = drive(rt.alloc(), sheet, brake, &CALLS);
-    let Draft { values: _ } = draft;
+fn follow(
+    rt: &(impl Print + AllocGlobal),
+    sheet: Admitted,
+    brake: ConstantBrake,
+) -> io::Result<()> {
+    let Journey {
+        records,
+        draft: Draft { values: _ },
+    } = drive(rt.alloc(), sheet, brake, &CALLS);
     for record in &records? {
         show_record(rt, &brake, *record)?;
     }

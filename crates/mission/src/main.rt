@@ -8,7 +8,7 @@ use models::SheetModel;
 use session::{answers, calls_in, read_lines, sheet_end};
 use sheet::{Admitted, Draft};
 use sheet_text::read_admitted;
-use std::alloc::AllocError;
+use std::alloc::{AllocError, Global};
 use std::io;
 use supervision::{BLANK_SECTION, BLANK_TARGET, MOST_SECTIONS, MOST_TARGETS};
 
@@ -22,7 +22,7 @@ fn main(rt: HostRuntime) -> io::Result<()> {
         Ok(sheet) => sheet,
         Err(fault) => return println!(rt; "{fault}"),
     };
-    let records = make_calls(&rt, sheet, calls.as_slice())?;
+    let records = make_calls(rt.alloc(), sheet, calls.as_slice())?;
     for shown in answers(rt.alloc(), lines.as_slice(), records.as_slice())?.as_slice() {
         println!(rt; "{shown}")?;
     }
@@ -30,17 +30,13 @@ fn main(rt: HostRuntime) -> io::Result<()> {
 }
 
 // Makes the calls in a mission with the model that the sheet names. The program lends the memory: what a mission is run in is its caller's.
-fn make_calls(
-    rt: &HostRuntime,
-    sheet: Admitted,
-    calls: &[Call],
-) -> Result<Vec<Record>, AllocError> {
+fn make_calls(heap: Global, sheet: Admitted, calls: &[Call]) -> Result<Vec<Record>, AllocError> {
     let model = SheetModel::new(&sheet);
     let mut sections = [BLANK_SECTION; MOST_SECTIONS];
     let mut targets = [BLANK_TARGET; MOST_TARGETS];
     let Journey {
         records,
         draft: Draft { values: _ },
-    } = run(rt.alloc(), sheet, model, &mut sections, &mut targets, calls);
+    } = run(heap, sheet, model, &mut sections, &mut targets, calls);
     records
 }

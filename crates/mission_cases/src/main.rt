@@ -30,7 +30,7 @@ fn main(rt: HostRuntime) -> io::Result<()> {
     Ok(())
 }
 
-fn show_mission(rt: &HostRuntime, text: &[u8]) -> io::Result<()> {
+fn show_mission(rt: &(impl Print + AllocGlobal), text: &[u8]) -> io::Result<()> {
     let end = sheet_end(text);
     match read_admitted(&text[..end]) {
         Ok(sheet) => show_calls(rt, sheet, &text[end..]),
@@ -39,7 +39,7 @@ fn show_mission(rt: &HostRuntime, text: &[u8]) -> io::Result<()> {
 }
 
 // Opens the mission, makes the calls and closes it.
-fn show_calls(rt: &HostRuntime, sheet: Admitted, text: &[u8]) -> io::Result<()> {
+fn show_calls(rt: &(impl Print + AllocGlobal), sheet: Admitted, text: &[u8]) -> io::Result<()> {
     // More memory than a mission's lists use, so that their limits show.
     let mut section_memory = [BLANK_SECTION; 70];
     let mut target_memory = [BLANK_TARGET; 40];
@@ -52,7 +52,7 @@ fn show_calls(rt: &HostRuntime, sheet: Admitted, text: &[u8]) -> io::Result<()> 
 }
 
 fn show_lines<M: BrakingModel>(
-    rt: &HostRuntime,
+    rt: &(impl Print + AllocGlobal),
     mission: &mut Mission<M>,
     lists: &mut Lists<'_>,
     text: &[u8],

@@ -19,16 +19,17 @@ fn model_of(values: Values) -> Option<SheetModel> {
             let Draft { values: _ } = sheet.into_draft();
             Some(model)
         }
-        Err(rejected) => {
-            let Rejected { refusal: _, draft } = rejected;
-            let Draft { values: _ } = draft;
-            None
-        }
+        Err(
+            Rejected {
+                refusal: _,
+                draft: Draft { values: _ },
+            },
+        ) => None,
     }
 }
 
 // One question in a line: its refusal, or its steps.
-fn show(rt: &HostRuntime, model: &SheetModel, number: usize, question: Question) -> io::Result<()> {
+fn show(rt: &impl Print, model: &SheetModel, number: usize, question: Question) -> io::Result<()> {
     print!(rt;
         "{number} {} {} {}",
         question.speed.tenths, question.target.tenths, question.grade.thousandths
@@ -54,8 +55,8 @@ fn show(rt: &HostRuntime, model: &SheetModel, number: usize, question: Question)
     }
 }
 
-// The questions of a sheet at one speed: the model is the sheet's, the speed is one of many.
-fn show_speed(rt: &HostRuntime, model: &SheetModel, number: usize, speed: u64) -> io::Result<()> {
+// The questions of a sheet at one speed. The parts come one by one: a struct of model and numbers would be built for this call alone.
+fn show_speed(rt: &impl Print, model: &SheetModel, number: usize, speed: u64) -> io::Result<()> {
     for target in &TARGETS {
         for grade in &GRADES {
             let question = Question {

@@ -20,7 +20,7 @@ fn main(rt: HostRuntime) -> io::Result<()> {
 }
 
 // Speed boards: memory for four, three allowed.
-fn boards(rt: &HostRuntime) -> io::Result<()> {
+fn boards(rt: &impl Print) -> io::Result<()> {
     println!(rt; "boards")?;
     let none = Board {
         number: 0,
@@ -41,7 +41,7 @@ fn boards(rt: &HostRuntime) -> io::Result<()> {
 }
 
 // Lamps, another type: memory for three, sixty-four allowed.
-fn lamps(rt: &HostRuntime) -> io::Result<()> {
+fn lamps(rt: &impl Print) -> io::Result<()> {
     println!(rt; "lamps")?;
     let mut memory = [at(0, Lamp::Red); 3];
     let mut list = PlaceList::new(&mut memory, 64);
@@ -57,14 +57,14 @@ fn lamps(rt: &HostRuntime) -> io::Result<()> {
     )
 }
 
-fn no_memory(rt: &HostRuntime) -> io::Result<()> {
+fn no_memory(rt: &impl Print) -> io::Result<()> {
     println!(rt; "no memory")?;
     let mut list = PlaceList::new(&mut [], 64);
     offer(rt, &mut list, board_at(100, 1))?;
     show(rt, &list)
 }
 
-fn nothing_allowed(rt: &HostRuntime) -> io::Result<()> {
+fn nothing_allowed(rt: &impl Print) -> io::Result<()> {
     println!(rt; "nothing allowed")?;
     let mut memory = [at(0, Lamp::Red); 2];
     let mut list = PlaceList::new(&mut memory, 0);
@@ -73,7 +73,7 @@ fn nothing_allowed(rt: &HostRuntime) -> io::Result<()> {
 }
 
 // The whole memory comes back: the item at its start, and what it held behind that.
-fn given_back(rt: &HostRuntime) -> io::Result<()> {
+fn given_back(rt: &impl Print) -> io::Result<()> {
     println!(rt; "given back")?;
     let mut memory = [board_at(7, 7), board_at(8, 8)];
     for x in lend(&mut memory, board_at(900, 9)) {

@@ -6,7 +6,7 @@ use units::Distance;
 
 // Fills a list that has room for three, overfills it, takes one from the middle, and fills it again.
 pub(crate) fn go_round<T: Copy + Keyed>(
-    rt: &HostRuntime,
+    rt: &impl Print,
     list: &mut PlaceList<'_, T>,
     four: [Placed<T>; 4],
 ) -> io::Result<()> {
@@ -26,9 +26,10 @@ pub(crate) fn go_round<T: Copy + Keyed>(
     look(rt, list, third)
 }
 
-// Inserts an item, and says what came of it. Here and below a list and the item for it come as two: the list is lent on, and the item is the call's own.
+// Inserts an item, and says what came of it. Here and below the list and the item come as two: a struct of both would be built for one call.
+// The key and the place are printed in four sentences: a `Display` for the items of this program alone would be longer.
 pub(crate) fn offer<T: Copy + Keyed>(
-    rt: &HostRuntime,
+    rt: &impl Print,
     list: &mut PlaceList<'_, T>,
     new: Placed<T>,
 ) -> io::Result<()> {
@@ -40,7 +41,7 @@ pub(crate) fn offer<T: Copy + Keyed>(
 
 // Takes an item out, and says which it was.
 fn take<T: Copy + Keyed>(
-    rt: &HostRuntime,
+    rt: &impl Print,
     list: &mut PlaceList<'_, T>,
     index: usize,
 ) -> io::Result<()> {
@@ -52,13 +53,15 @@ fn take<T: Copy + Keyed>(
 
 // Puts an item in for the first one.
 fn swap_in<T: Copy + Keyed>(
-    rt: &HostRuntime,
+    rt: &impl Print,
     list: &mut PlaceList<'_, T>,
     new: Placed<T>,
 ) -> io::Result<()> {
     match exchange(list, 0, new) {
-        Some(Ok(())) => println!(rt; "exchanged the first one")?,
-        Some(Err(why)) => println!(rt; "refused {}", why.number())?,
+        Some(answer) => {
+            answer.unwrap();
+            println!(rt; "exchanged the first one")?
+        }
         None => println!(rt; "nothing to take out")?,
     }
     show(rt, list)
@@ -77,18 +80,14 @@ fn exchange<T: Copy>(
 }
 
 // Looks an item up by its place and by its key.
-fn look<T: Copy + Keyed>(
-    rt: &HostRuntime,
-    list: &PlaceList<'_, T>,
-    x: Placed<T>,
-) -> io::Result<()> {
+fn look<T: Copy + Keyed>(rt: &impl Print, list: &PlaceList<'_, T>, x: Placed<T>) -> io::Result<()> {
     found(rt, list.find_place(x.place))?;
     found(rt, list.find_place(Distance { millimetres: 1 }))?;
     found(rt, list.find_key(x.item.key()))?;
     found(rt, list.find_key(99))
 }
 
-fn found(rt: &HostRuntime, index: Option<usize>) -> io::Result<()> {
+fn found(rt: &impl Print, index: Option<usize>) -> io::Result<()> {
     match index {
         Some(i) => println!(rt; "found at {i}"),
         None => println!(rt; "not found"),
@@ -96,7 +95,7 @@ fn found(rt: &HostRuntime, index: Option<usize>) -> io::Result<()> {
 }
 
 // The items in order, and the room for more.
-pub(crate) fn show<T: Copy + Keyed>(rt: &HostRuntime, list: &PlaceList<'_, T>) -> io::Result<()> {
+pub(crate) fn show<T: Copy + Keyed>(rt: &impl Print, list: &PlaceList<'_, T>) -> io::Result<()> {
     println!(rt; "{} in use, room for {}", list.len(), list.room())?;
     for x in list.items() {
         println!(rt; "  {} at {}", x.item.key(), x.place.millimetres)?;

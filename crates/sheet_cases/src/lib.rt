@@ -5,6 +5,7 @@
 mod tests {
     use sheet::{Draft, LengthChoice, Model, NumberKey, Regime, Rejected, Service, Values};
 
+    // Values that are fine. Those of `figures` stand above the models, which these tests do not need.
     const FINE: Values = Values {
         model: Model::Scmt,
         regime: Regime::Operation,
@@ -20,18 +21,19 @@ mod tests {
         eps: 0,
     };
 
-    // The number of the refusal, or 0. The draft that comes back, admitted or not, has the same eps.
+    // The number of the refusal, or 0, as the tests have stated it from the start. The draft that comes back, admitted or not, has the same eps.
     fn answer(values: Values) -> (u8, u16) {
         match (Draft { values }).admit() {
             Ok(sheet) => {
                 let Draft { values } = sheet.into_draft();
                 (0, values.eps)
             }
-            Err(rejected) => {
-                let Rejected { refusal, draft } = rejected;
-                let Draft { values } = draft;
-                (refusal.number(), values.eps)
-            }
+            Err(
+                Rejected {
+                    refusal,
+                    draft: Draft { values },
+                },
+            ) => (refusal.number(), values.eps),
         }
     }
 
@@ -79,7 +81,7 @@ mod tests {
 
     #[test]
     fn values_beyond_their_limits_are_refused(rt: HostRuntime) {
-        // as above but for the number: a function of both would need a handle that may stop, which none here takes
+        // as above but for the number: a function of both would answer whether all are so, and hide which is not
         for (key, value) in &BEYOND {
             let values = FINE.with(*key, *value);
             assert_eq!(rt; answer(values), (4, values.eps));

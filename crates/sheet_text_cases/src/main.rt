@@ -6,7 +6,7 @@ use sheet::Draft;
 use sheet_text::read_sheet;
 use std::io;
 
-fn show(rt: &HostRuntime, text: &[u8]) -> io::Result<()> {
+fn show(rt: &impl Print, text: &[u8]) -> io::Result<()> {
     match read_sheet(text) {
         Ok(draft) => {
             let Draft { values: _ } = draft;
@@ -16,7 +16,7 @@ fn show(rt: &HostRuntime, text: &[u8]) -> io::Result<()> {
     }
 }
 
-// As in the program for the lines of calls, but for what is shown: the two have no crate in common that could show either.
+// As in the program for the lines of calls, but for what is shown: a function of both would be passed what prints, and no clause could say what that prints.
 fn main(rt: HostRuntime) -> io::Result<()> {
     let texts = read_most(rt.alloc(), rt.stdin(), MANY_TEXTS)?;
     for text in ended_texts(rt.alloc(), texts.as_slice(), TEXT_END)?.as_slice() {
