@@ -8,7 +8,7 @@ pub struct Approach {
     pub speed: Speed,
     pub target: Speed,
     pub grade: Grade,
-    // The bound stands in each type whose numbers need it: a speed with it would be taken apart wherever it meets one of any size.
+    // No speed type with this bound, here and where it stands else: it would be taken apart wherever it meets a plain `Speed`.
     ghost slow: { speed.tenths ≤ 4000 },
     ghost binding: { target.tenths < speed.tenths },
     ghost not_below: { negsuc 34 ≤ℤ grade.thousandths },

@@ -13,6 +13,7 @@ pub struct Distances {
     ghost nominal_last: { warning.millimetres ≤ nominal.millimetres },
 }
 
+// The numbers are taken out where they are printed: a `Display` of a distance would name no unit.
 impl fmt::Display for Distances {
     ghost use Rattle.braking.specs.Printed.{distances_text};
 

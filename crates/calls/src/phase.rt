@@ -38,7 +38,7 @@ impl Phase {
     }
 }
 
-// A phase prints as its word: an impl of this type alone, since one for all types with words would be of a foreign trait.
+// A phase prints as its word: one impl for one type, since `Display` is a foreign trait, and none may serve all types at once.
 impl fmt::Display for Phase {
     ghost output = { λ p. Some (phase_word p) };
 

@@ -22,7 +22,7 @@ impl Zone {
         self as u8
     }
 
-    // The one of two zones with the larger number.
+    // The one of two zones with the larger number: `max`, with what it says of the numbers.
     pub fn larger(self, other: Zone) -> Zone
         ensures value { result ≡ larger_zone self other }
         ensures number { zone_number result ≡ max (zone_number self) (zone_number other) }

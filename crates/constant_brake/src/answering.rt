@@ -37,7 +37,8 @@ impl ConstantBrake {
         }
     }
 
-    // The steps from a question to its answer, or why it is turned down. One line: what each brake says apart is its promise, in its own words.
+    // The steps from a question to its answer, or why it is turned down. One line: both brakes call `work_out`, but each states the steps by its own formulas.
+    // The two times stand in the clauses as numbers, since definitions speak of numbers and not of the program's structs.
     pub fn steps(&self, question: Question) -> Result<Steps, Refusal>
         ensures shown { Shown self.now.stated self.now.lead.tw self.now.lead.ti (question_of question) result }
         ensures plain { Plain self.now.stated self.now.lead.tw self.now.lead.ti }
@@ -73,7 +74,7 @@ impl BrakingModel for ConstantBrake {
         }
     }
 
-    // One line, as for every brake that is worked out so: a trait's method cannot be given for all of them in another crate.
+    // One line, as for every brake that is worked out so: one impl for all of them is not to be had, since the trait is of another crate.
     fn answer(&self, question: Question) -> Result<Option<Distances>, Refusal> {
         Ok(self.steps(question)?.answer)
     }

@@ -55,6 +55,7 @@ impl ConstantBrake {
         let values = sheet.values();
         Ok(ConstantBrake {
             stated,
+            // as in `models`: the crate that these times are of knows no sheet
             lead: LeadTimes {
                 tw: values.tw,
                 ti: values.ti,

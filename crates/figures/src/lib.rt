@@ -6,9 +6,10 @@ ghost use Rattle.figures.specs.Stated.{Stated};
 
 use sheet::{LengthChoice, Model, Regime, Service, Values};
 
-// Sheet A as it is filled in.
-fn filled_in() -> Values
-    ensures { result ≡ sheet_a }
+// The sheet of the worked figures, and with it the figures: each follows from the rules of the two models.
+pub fn sheet_a() -> Values
+    ensures values { result ≡ sheet_a }
+    ensures figures { Stated }
 {
     Values {
         model: Model::Scmt,
@@ -24,12 +25,4 @@ fn filled_in() -> Values
         ti: 30,
         eps: 0,
     }
-}
-
-// The sheet of the worked figures, and with it the figures: each follows from the rules of the two models.
-pub fn sheet_a() -> Values
-    ensures values { result ≡ sheet_a }
-    ensures figures { Stated }
-{
-    filled_in()
 }

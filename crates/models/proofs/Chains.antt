@@ -1,5 +1,5 @@
 -- A factor of the code scales as its fraction does.
-use Rattle.std.proofs.Common.{◌≡◌, ℕ, ◌*◌, ◌/◌, ◌≤◌, ℤ, pos, ◌≤ℤ◌, ap, ◌∙◌, mul-one, div-one, arith, w64, to_z}
+use Rattle.std.proofs.Common.{◌≡◌, ℕ, ◌*◌, ◌/◌, ℤ, pos, ◌≤ℤ◌, ap, ◌∙◌, mul-one, div-one, arith}
 use Rattle.std.proofs.lemmas.Int.{ints}
 use Rattle.units.specs.Fractions.{Fraction, whole}
 use Rattle.stopping.specs.Factors.{scaled}
@@ -22,8 +22,8 @@ two_of_five x f g =
     let after-f : ℕ = scaled (scaled x (whole 1)) f in
     ap (λ (y : ℕ). scaled y g) (scaled_one (scaled after-f (whole 1)) ∙ (scaled_one after-f ∙ ap (λ (y : ℕ). scaled y f) (scaled_one x)))
 
-pub small_cast : (n m : ℕ) → n ≤ 1000000000 → n ≡ m → to_z w64 n ≡ pos m
-small_cast n m h e = omega (arith, ints)
+pub units_are : (n m : ℕ) (z : ℤ) → z ≡ pos n → n ≡ m → z ≡ pos m
+units_are n m z h e = h ∙ ap pos e
 
 pub not_negative : (z : ℤ) (n : ℕ) → z ≡ pos n → pos 0 ≤ℤ z
 not_negative z n e = omega (arith, ints)

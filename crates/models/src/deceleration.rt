@@ -1,4 +1,4 @@
-ghost use Rattle.std.specs.Prelude.{◌≡◌, ◌-◌, ◌*◌, ◌≤◌, if◌then◌else◌, nat_lt};
+ghost use Rattle.std.specs.Prelude.{◌≡◌, ◌-◌, ◌*◌, ◌≤◌, pos, if◌then◌else◌, nat_lt};
 ghost use Rattle.units.specs.Fractions.{whole, ratio};
 ghost use Rattle.models.specs.Formulas.{start, fast, targeted};
 ghost use Rattle.models.specs.Scaling.{Is};
@@ -7,7 +7,7 @@ use crate::factor::Factor;
 use crate::fit_values::FitValues;
 use crate::numbers;
 use braking::Approach;
-use units::Speed;
+use units::{Deceleration, Speed};
 
 const ONE: Factor = Factor { over: 1, under: 1 };
 
@@ -24,10 +24,9 @@ pub(crate) fn starting(sheet: &FitValues) -> u64
 pub(crate) fn fading(vl: Speed, approach: Approach) -> Factor
     ensures { Is (if nat_lt vl.tenths approach.speed.tenths then ratio (100000 - 21 * (approach.speed.tenths - vl.tenths)) 100000 else whole 1) result }
 {
-    let speed = approach.speed.tenths;
-    if speed > vl.tenths {
+    if approach.speed > vl {
         Factor {
-            over: 100_000 - numbers::FADING * (speed - vl.tenths),
+            over: 100_000 - numbers::FADING * (approach.speed.tenths - vl.tenths),
             under: 100_000,
         }
     } else {
@@ -49,10 +48,9 @@ pub(crate) fn counted(sheet: &FitValues) -> Factor
 pub(crate) fn faster(approach: Approach) -> Factor
     ensures { Is (if nat_lt 1500 approach.speed.tenths then fast approach.speed.tenths else whole 1) result }
 {
-    let speed = approach.speed.tenths;
-    if speed > numbers::FAST {
+    if approach.speed > numbers::FAST {
         Factor {
-            over: 8_500 + speed,
+            over: 8_500 + approach.speed.tenths,
             under: 10_000,
         }
     } else {
@@ -64,7 +62,7 @@ pub(crate) fn faster(approach: Approach) -> Factor
 pub(crate) fn fastest(approach: Approach) -> Factor
     ensures { Is (if nat_lt 2600 approach.speed.tenths then ratio 80 100 else whole 1) result }
 {
-    if approach.speed.tenths > numbers::VERY_FAST {
+    if approach.speed > numbers::VERY_FAST {
         Factor {
             over: numbers::VERY_FAST_SHARE,
             under: 100,
@@ -82,5 +80,15 @@ pub(crate) fn targeting(approach: Approach) -> Factor
     Factor {
         over: 100 * speed - numbers::TARGET_SHARE * target,
         under: 100 * speed,
+    }
+}
+
+// So many units as a deceleration. The cast is proved to lose nothing; `From` goes only to what holds every value.
+pub(crate) fn in_units(units: u64) -> Deceleration
+    requires { units ≤ 1000000000 }
+    ensures { result.units ≡ pos units }
+{
+    Deceleration {
+        units: units as i64,
     }
 }

@@ -1,12 +1,12 @@
 ghost use Rattle.sheet.specs.declared.words.Model.TheVariants.{Etcs as EtcsName};
 
-use crate::deceleration::{counted, starting, targeting};
+use crate::deceleration::{counted, in_units, starting, targeting};
 use crate::fit_values::FitValues;
 use crate::numbers;
 use crate::railway::Railway;
 use crate::rules::Rules;
 use braking::{Approach, TopSpeed};
-use sheet::{Regime, Values};
+use sheet::Regime;
 use units::{Deceleration, Speed};
 
 // The rules of ETCS baseline 2.
@@ -34,7 +34,7 @@ impl Rules for EtcsRules {
         sheet.has_ep()
     }
 
-    fn pipe_share(_values: &Values, _approach: Approach) -> u64 {
+    fn pipe_share(_sheet: &FitValues, _approach: Approach) -> u64 {
         numbers::ETCS_SHARE
     }
 
@@ -42,13 +42,11 @@ impl Rules for EtcsRules {
         numbers::ETCS_DELAY
     }
 
-    // Of the five factors only two are not 1. The cast at the end is proved to lose nothing; `From` goes only to what holds every value.
+    // Of the five factors only two are not 1.
     fn braking(sheet: &FitValues, approach: Approach) -> Deceleration {
         let starting = starting(sheet);
         let shared = counted(sheet).scale(starting);
         let targeted = targeting(approach).scale(shared);
-        Deceleration {
-            units: targeted as i64,
-        }
+        in_units(targeted)
     }
 }

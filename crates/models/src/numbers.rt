@@ -1,4 +1,6 @@
-// The numbers of the two models. A maker's own numbers would take the place of these.
+// The numbers of the two models, but for the top speeds and the table of VL, which stand with each model's rules, and the scales of the factors. A maker's own numbers would take the place of these.
+
+use units::Speed;
 
 // h, in ticks
 pub const SCMT_DELAY: u64 = 70_000_000;
@@ -44,10 +46,10 @@ pub const LAMBDA_REST: u64 = 9_400;
 // how a factor of scmt falls above VL, in hundred-thousandths for a tenth of km/h
 pub const FADING: u64 = 21;
 
-// above which speed, in tenths of km/h, the third and the fourth factor hold
-pub const FAST: u64 = 1_500;
+// above which speed the third and the fourth factor hold
+pub const FAST: Speed = Speed { tenths: 1_500 };
 
-pub const VERY_FAST: u64 = 2_600;
+pub const VERY_FAST: Speed = Speed { tenths: 2_600 };
 
 // the fourth factor, in hundredths
 pub const VERY_FAST_SHARE: u64 = 80;

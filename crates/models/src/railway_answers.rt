@@ -31,12 +31,12 @@ impl<R: Rules> Railway<R> {
     fn reaction_time(&self, approach: Approach) -> ReactionTime
         ensures { result.time.ticks ≡ reaction_time R.name self.now.sheet.values approach.speed.tenths approach.target.tenths }
     {
-        let values = self.sheet.values;
-        let pipe = Pipe::of(&self.sheet).braking_time(values.brake, R::counts_ep(&self.sheet));
-        pipe.delayed(R::pipe_share(&values, approach), R::delay())
+        let sheet = &self.sheet;
+        let pipe = Pipe::of(sheet).braking_time(sheet.values.brake, R::counts_ep(sheet));
+        pipe.delayed(R::pipe_share(sheet, approach), R::delay())
     }
 
-    // The steps from a question to its answer, or why it is turned down. One line: what each brake says apart is its promise, in its own words.
+    // The steps from a question to its answer, or why it is turned down. One line: both brakes call `work_out`, but each states the steps by its own formulas.
     pub fn steps(&self, question: Question) -> Result<Steps, Refusal>
         ensures { Shown R.name self.now.sheet.values (question_of question) result }
     {
@@ -68,7 +68,7 @@ impl<R: Rules> BrakingModel for Railway<R> {
         R::top_speed(self.sheet.values.regime)
     }
 
-    // One line, as for every brake that is worked out so: a trait's method cannot be given for all of them in another crate.
+    // One line, as for every brake that is worked out so: one impl for all of them is not to be had, since the trait is of another crate.
     fn answer(&self, question: Question) -> Result<Option<Distances>, Refusal> {
         Ok(self.steps(question)?.answer)
     }

@@ -5,7 +5,7 @@ ghost use Rattle.models.specs.Formulas.{counted_ep, delay, factors, pipe_share, 
 
 use crate::fit_values::FitValues;
 use braking::{Approach, TopSpeed};
-use sheet::{Regime, Values};
+use sheet::Regime;
 use units::Deceleration;
 
 // What one railway's rules say differently from another's.
@@ -21,11 +21,11 @@ pub trait Rules {
         ensures { counted_ep name sheet.now.values ≡ if result then 1 else 0 };
 
     // The share of the pipe time that is counted, in hundredths.
-    fn pipe_share(values: &Values, approach: Approach) -> u64
-        ensures value { result ≡ pipe_share name values.now approach.speed.tenths approach.target.tenths }
+    fn pipe_share(sheet: &FitValues, approach: Approach) -> u64
+        ensures value { result ≡ pipe_share name sheet.now.values approach.speed.tenths approach.target.tenths }
         ensures bounded { result ≤ 200 };
 
-    // The delay of the equipment, in ticks.
+    // The delay of the equipment, in ticks: a function with its clause, where a constant would want a ghost member and a law beside it.
     fn delay() -> u64
         ensures { result ≡ delay name };
 

@@ -2,14 +2,14 @@ ghost use Rattle.std.specs.Prelude.{◌≡◌, ◌<◌, slice_index};
 ghost use Rattle.sheet.specs.declared.words.Model.TheVariants.{Scmt as ScmtName};
 ghost use Rattle.models.specs.Vl.{Greatest, entries, vl};
 
-use crate::deceleration::{counted, fading, faster, fastest, starting, targeting};
+use crate::deceleration::{counted, fading, faster, fastest, in_units, starting, targeting};
 use crate::fit_values::FitValues;
 use crate::numbers;
 use crate::railway::Railway;
 use crate::rules::Rules;
 use crate::shares::scmt_share;
 use braking::{Approach, TopSpeed};
-use sheet::{Regime, Values};
+use sheet::Regime;
 use units::{Deceleration, Speed};
 
 // The rules of the Italian SCMT.
@@ -74,15 +74,15 @@ impl Rules for ScmtRules {
         numbers::SCMT_EP
     }
 
-    fn pipe_share(values: &Values, approach: Approach) -> u64 {
-        scmt_share(values.train, values.brake, approach)
+    fn pipe_share(sheet: &FitValues, approach: Approach) -> u64 {
+        scmt_share(sheet.values.train, sheet.values.brake, approach)
     }
 
     fn delay() -> u64 {
         numbers::SCMT_DELAY
     }
 
-    // All five factors. The cast at the end is proved to lose nothing; `From` goes only to what holds every value.
+    // All five factors, each by its name, as the rule has them: a fold over a list of them would be no shorter.
     fn braking(sheet: &FitValues, approach: Approach) -> Deceleration {
         let starting = starting(sheet);
         let faded = fading(sheet.fading_speed(), approach).scale(starting);
@@ -90,8 +90,6 @@ impl Rules for ScmtRules {
         let fast = faster(approach).scale(shared);
         let very_fast = fastest(approach).scale(fast);
         let targeted = targeting(approach).scale(very_fast);
-        Deceleration {
-            units: targeted as i64,
-        }
+        in_units(targeted)
     }
 }

@@ -12,20 +12,18 @@ impl Draft {
     pub fn admit(self) -> Result<Admitted, Rejected>
         ensures { Answered self.values result }
     {
-        let Draft { values } = self;
-        if !values.in_ranges() {
-            return Err(Rejected {
-                refusal: Refusal::OutOfRange,
-                draft: Draft { values },
-            });
-        }
-        if !values.brake_allowed() {
-            return Err(Rejected {
-                refusal: Refusal::GoodsBrake,
-                draft: Draft { values },
-            });
-        }
-        Ok(Admitted { values })
+        let refusal = if !self.values.in_ranges() {
+            Refusal::OutOfRange
+        } else if !self.values.brake_allowed() {
+            Refusal::GoodsBrake
+        } else {
+            let Draft { values } = self;
+            return Ok(Admitted { values });
+        };
+        Err(Rejected {
+            refusal,
+            draft: self,
+        })
     }
 }
 
@@ -38,7 +36,7 @@ impl Admitted {
         self.values
     }
 
-    // The draft that was admitted.
+    // The draft that was admitted. No `From`: the name says that an admitting is undone.
     pub fn into_draft(self) -> Draft
         ensures { result.values ≡ self.values }
     {

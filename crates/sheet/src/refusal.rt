@@ -23,7 +23,7 @@ impl Refusal {
     }
 }
 
-// A refusal prints as the answer that it is: an impl of this type alone, since one for all types with numbers would be of a foreign trait.
+// A refusal prints as the answer that it is: one impl for one type: `Display` is a foreign trait, so none may serve all types at once.
 impl fmt::Display for Refusal {
     ghost use Rattle.sheet.specs.Refusals.{refusal_text};
 

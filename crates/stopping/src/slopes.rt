@@ -11,18 +11,20 @@ const GENTLE_SHARE: i64 = 100;
 
 const STEEP_SHARE: i64 = 110;
 
-const GENTLE: i64 = -20;
+const LEVEL: Grade = Grade { thousandths: 0 };
 
-// what a thousandth of grade does, in hundredths of units
-const THOUSANDTH: i64 = 981;
+const GENTLE: Grade = Grade { thousandths: -20 };
+
+// what a hundredth of a thousandth of grade does, in units
+const HUNDREDTH: i64 = 981;
 
 // The share of a grade that is counted on, in hundredths.
 fn share(grade: Grade) -> i64
     ensures { result ≡ pos (share_of grade.thousandths) }
 {
-    if grade.thousandths > 0 {
+    if grade > LEVEL {
         UPHILL_SHARE
-    } else if grade.thousandths >= GENTLE {
+    } else if grade >= GENTLE {
         GENTLE_SHARE
     } else {
         STEEP_SHARE
@@ -36,7 +38,7 @@ fn by_gravity(hundredths: i64) -> Deceleration
     ensures { result.units ≡ hundredths *ℤ pos 981 }
 {
     Deceleration {
-        units: hundredths * THOUSANDTH,
+        units: hundredths * HUNDREDTH,
     }
 }
 

@@ -9,27 +9,16 @@ use crate::reached::Reached;
 use crate::steps::Steps;
 use crate::stop::Stop;
 use braking::Distances;
-use units::{Deceleration, Distance, Divisor, FineSpeed, Speed, quotient_floor, quotient_up};
+use units::{Deceleration, Distance, Divisor, FineSpeed, quotient_floor, quotient_up};
 
-// A net deceleration below this many units is weak.
-const LEAST_NET: i64 = 500_000;
+// A net deceleration below this is weak.
+const LEAST_NET: Deceleration = Deceleration { units: 500_000 };
 
 // Whether a net deceleration is too weak to brake by.
 fn is_weak(net: Deceleration) -> bool
     ensures { result ≡ int_lt net.units (pos 500000) }
 {
-    net.units < LEAST_NET
-}
-
-// A speed after a loss, in fine steps; a loss below zero is a gain.
-// A cast, here and below: `From` goes only to what holds every value, and the check proves that the cast loses nothing.
-fn after_loss(speed: Speed, loss: i64) -> i64
-    requires slow { speed.tenths ≤ 4000 }
-    requires not_below { negsuc 907199 ≤ℤ loss }
-    requires not_above { loss ≤ℤ pos 907200 }
-    ensures { result ≡ pos (1000 * speed.tenths) -ℤ loss }
-{
-    1000 * (speed.tenths as i64) - loss
+    net < LEAST_NET
 }
 
 // The distance from braking, rounded up, by what the square of the speed has to fall.
@@ -76,6 +65,16 @@ impl Stop {
         }
     }
 
+    // The speed after a loss, in fine steps; a loss below zero is a gain.
+    // A cast, here and below: `From` goes only to what holds every value, and the check proves that the cast loses nothing.
+    fn after_loss(&self, loss: i64) -> i64
+        requires not_below { negsuc 907199 ≤ℤ loss }
+        requires not_above { loss ≤ℤ pos 907200 }
+        ensures { result ≡ pos (1000 * self.now.speed.tenths) -ℤ loss }
+    {
+        1000 * (self.speed.tenths as i64) - loss
+    }
+
     // The speed when the brake acts, rounded up: downhill the train has gained speed until then, and the gain is rounded up too.
     fn speed_reached(&self) -> Reached
         ensures value { result.speed.steps ≡ reached_up (stop_of self.now (whole 0)) }
@@ -87,7 +86,7 @@ impl Stop {
                 value: 250_000_000_000,
             },
         );
-        let reached = after_loss(self.speed, loss);
+        let reached = self.after_loss(loss);
         let target = 1000 * (self.target.tenths as i64);
         Reached {
             speed: FineSpeed {

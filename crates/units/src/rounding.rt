@@ -3,7 +3,7 @@ ghost use Rattle.units.specs.Rounding.{ceiling, floor, RoundedUp, RoundedDown, F
 
 use crate::divisor::Divisor;
 
-// Each quotient takes its two numbers as they are at hand: they have types of their own, and a struct of both would only be taken apart again.
+// Each quotient takes its two numbers as they are at hand: a struct of both would be built for one call.
 
 // over / under, rounded up to a whole number.
 pub fn quotient_up(over: u64, under: Divisor) -> u64

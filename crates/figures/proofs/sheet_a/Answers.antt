@@ -1,5 +1,5 @@
 use Rattle.figures.proofs.Worked.{stated}
 use Rattle.figures.proofs.sheet_a.Goals as goal
 
-pub returns : goal.returns
-returns c = record { values = c.filled_in.ensures; figures = stated }
+pub returns-clause-figures : goal.returns-clause-figures
+returns-clause-figures c = stated

@@ -4,7 +4,7 @@ use Rattle.units.specs.Fractions.{whole, ratio}
 use Rattle.models.specs.Formulas.{fading, factors}
 use Rattle.models.specs.Scaling.{Is}
 use Rattle.models.specs.Vl.{vl}
-use Rattle.models.proofs.Chains.{scaled_is, small_cast}
+use Rattle.models.proofs.Chains.{scaled_is, units_are}
 use Rattle.models.proofs.scmt.ScmtRulesRules.braking.Goals as goal
 
 pub returns : goal.returns
@@ -21,4 +21,4 @@ returns c =
     let targeted = scaled_is _ _ _ _ _ c.targeting.ensures very-fast c.scale-targeted.ensures.value in
     let small : c.scale-targeted.result ≤ 1000000000 =
     omega (arith, c.starting-starting.ensures.bounded, c.scale-faded.ensures.bounded, c.scale-shared.ensures.bounded, c.scale-fast.ensures.bounded, c.scale-very_fast.ensures.bounded, c.scale-targeted.ensures.bounded) in
-    record { value = small_cast _ _ small targeted; bounded = omega (arith, ints) }
+    record { value = units_are _ _ _ c.in_units.ensures targeted; bounded = omega (arith, ints) }
