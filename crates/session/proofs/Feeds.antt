@@ -80,7 +80,7 @@ module _ {F G : Type 0} (g : Mut F (Bor ℕ × Unit {0}) Bool) (m : Mut G (Bor (
   always asks f = record { at = λ xs. each asks f xs }
 
   -- the bytes of the lines so far, and those that are still to come
-  pub turned : Asks → Counts → (s t : Map (Take (SplitInclusive ℕ F)) G) (ns : List ℕ) (n : ℕ) → Yields Turns s ns t →
+  turned : Asks → Counts → (s t : Map (Take (SplitInclusive ℕ F)) G) (ns : List ℕ) (n : ℕ) → Yields Turns s ns t →
       (fold (λ a x. a + x) n ns + length t.iter.iter.rest.now ≡ n + length s.iter.iter.rest.now) × (n + behind_feeds s.iter.n s.iter.iter.rest.now ≡ fold (λ a x. a + x) n ns + behind_feeds t.iter.n t.iter.iter.rest.now)
   turned asks counts s t [] n e = (ap (λ (i : Map (Take (SplitInclusive ℕ F)) G). n + length i.iter.iter.rest.now) (sym e), ap (λ (i : Map (Take (SplitInclusive ℕ F)) G). n + behind_feeds i.iter.n i.iter.iter.rest.now) e)
   turned asks counts s t (y ∷ ns) n (j, (x, (cut, fewer), called), more) =
