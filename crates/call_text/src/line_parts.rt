@@ -17,20 +17,18 @@ impl<'a> Fields<'a> {
         ensures answers { SpanAnswers key self.old.rest.text.now self.old.rest.at self.new.rest.at result }
         ensures same { self.new.rest.text ≡ self.old.rest.text }
     {
-        let end = field_end(self.rest.text, self.rest.at);
+        let end = self.end();
         let field = self.rest.field_between(end, key.lead(), key.due())?;
         self.rest.at = end;
         Ok(field.span())
     }
-}
 
-// Where the field ends that begins at a byte: at the next space behind that byte, or where the line ends. Apart from the fields, so that its fact is of any line and byte.
-fn field_end(line: &[u8], at: usize) -> usize
-    ensures { EndsBehind line.now at result }
-{
-    let (first, behind) = line.split_at(line.len().min(at.saturating_add(1)));
-    match first_of(behind, b' ') {
-        Some(before) => first.len() + before,
-        None => line.len(),
+    // Where the next field ends: at the next space behind its first byte, or where the line ends.
+    fn end(&self) -> usize
+        ensures { EndsBehind self.now.rest.text.now self.now.rest.at result }
+    {
+        let line = self.rest.text;
+        let (first, behind) = line.split_at(line.len().min(self.rest.at.saturating_add(1)));
+        first_of(behind, b' ').map_or(line.len(), |before| first.len() + before)
     }
 }

@@ -41,6 +41,7 @@ impl<'a> Cursor<'a> {
     }
 
     // The field of a key in the line from here on.
+    // The key and its form come one by one, so that any bytes may be a key, in any form.
     pub fn read_field(self, window: usize, key: &[u8], due: Due) -> Result<Field<'a>, ValueFault>
         ensures { LineAnswers self.entry.text.now self.entry.at window key.now due result }
     {

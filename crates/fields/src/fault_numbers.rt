@@ -15,7 +15,8 @@ impl ValueFault {
         }
     }
 
-    // The byte of the text that the fault is at, which each kind holds: with a byte beside a kind, each place that finds a fault would name both.
+    // The byte of the text that the fault is at.
+    // Each kind holds it: a fault holds the fault below it whole, with its byte, and a byte beside the kind would be a second one.
     pub fn byte(self) -> usize
         ensures { result ≡ fault_byte self }
     {

@@ -2,6 +2,7 @@ ghost use Rattle.std.specs.Prelude.{◌≡◌};
 ghost use Rattle.fields.specs.declared.faults.ValueFault.TheVariants.{Text as OfText};
 
 // Why a text could not be cut.
+// One kind alone: each of the three readers has a fault type of its own, as was asked for from the start of the project.
 #[derive(Clone, Copy, Debug, PartialEq, Eq)]
 pub enum TextFault {
     // no line feed in the window from this byte on

@@ -7,14 +7,14 @@ use numerals::read_number;
 pub fn read_signed(bytes: &[u8], most: usize) -> Option<i64>
     ensures { ReadSigned most bytes.now result }
 {
-    // ten digits fit an i64: the cast is proved to lose nothing, here and below
     match bytes.strip_prefix(b"-") {
         Some(digits) => negated(read_number(digits, most)?),
-        None => Some(read_number(bytes, most)? as i64),
+        None => i64::try_from(read_number(bytes, most)?).ok(),
     }
 }
 
 // The number below zero, unless it is 0.
+// The number has at most ten digits: the cast is proved to lose nothing.
 fn negated(number: u64) -> Option<i64>
     requires { number < 10 ^ 10 }
     ensures { Negated number result }

@@ -6,7 +6,7 @@ use crate::digit::last_digit;
 use crate::width::digits_of;
 
 // Writes the digits of the number from `at` on and answers where they end; where they do not fit it alters nothing.
-// The place is an argument, and not memory that begins there, so that the promise is of the bytes before it too.
+// The place is an argument: the promise is of the bytes before it too, and over a part lent from there on each caller would have to say that itself.
 pub fn write_number(out: &mut [u8], at: usize, number: u64) -> Option<usize>
     ensures written { Written out.old at number out.new result }
     ensures read_back { WrittenIsRead }

@@ -12,7 +12,7 @@ pub fn read_lines(heap: Global, text: &[u8]) -> Result<Vec<Result<Call, CallFaul
 {
     let mut lines = Vec::new(heap);
     let mut rest = text;
-    // no iterator of the library walks a text by lines of which each says where the next one begins
+    // a loop: `collect` asks for an iterator that ends, and neither `from_fn` nor `successors` promises an end
     while !rest.is_empty() {
         let line = read_call(rest);
         lines.push(line.call)?;

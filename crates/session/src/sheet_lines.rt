@@ -8,10 +8,8 @@ pub fn sheet_end(text: &[u8]) -> usize
     ensures value { result ≡ behind_feeds 12 text.now }
     ensures within { result ≤ length text.now }
 {
-    let mut rest = text.iter();
-    for _line in 0..SHEET_LINES {
-        // a count of searches and no index: each leaves what is behind the next line feed, or nothing
-        rest.find(|byte| **byte == b'\n');
-    }
-    text.len() - rest.len()
+    text.split_inclusive(|byte| *byte == b'\n')
+        .take(SHEET_LINES)
+        .map(|line| line.len())
+        .sum()
 }

@@ -5,7 +5,7 @@ use calls::{Phase, Record, Zone};
 use std::fmt;
 
 // What is shown of a call line: the number of its answer, the phase after it, and the zone of an accepted sample.
-// The number is what is printed, of a fault or of a refusal, which have nothing else in common.
+// Flat, as it is printed: a fault and a refusal have nothing but a number in common, and neither has a zone.
 #[derive(Clone, Copy, Debug, PartialEq, Eq)]
 pub struct Shown {
     pub number: u8,
@@ -48,11 +48,10 @@ impl fmt::Display for Shown {
     ghost output = { λ s. Some (shown_text s) };
 
     fn fmt<W: fmt::Write>(&self, f: &mut fmt::Formatter<W>) -> fmt::Result {
-        let number = self.number;
-        let phase = self.phase;
+        write!(f, "answer={} phase={} zone=", self.number, self.phase)?;
         match self.zone {
-            Some(zone) => write!(f, "answer={number} phase={phase} zone={}", zone.number()),
-            None => write!(f, "answer={number} phase={phase} zone=-"),
+            Some(zone) => write!(f, "{}", zone.number()),
+            None => f.write_str("-"),
         }
     }
 }

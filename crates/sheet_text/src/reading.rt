@@ -25,7 +25,7 @@ impl Key {
     }
 }
 
-// The key with its value in the line that is read next; what is read then is what stands behind that line.
+// The key with its value in the line that is read next. The cursor then stands behind that line.
 // Here and below a clause says that the text stays: no type says which part of a `&mut` is left alone.
 fn read_entry(rest: &mut Cursor, key: Key) -> Result<Entry, SheetFault>
     ensures answers { LineAnswers key rest.old.text.now rest.old.at rest.new.at result }
@@ -87,7 +87,8 @@ fn with_entry(values: Values, entry: Entry) -> Values
     }
 }
 
-// The values of the twelve lines of a text that is read from its first byte; what is read then is what stands behind the last.
+// The values of the twelve lines of a text that is read from its first byte. The cursor then stands behind the last line.
+// A fold over the list of keys, which is the order of the lines: twelve reads into a literal would state that order again.
 fn read_values(rest: &mut Cursor) -> Result<Values, SheetFault>
     requires { rest.old.at ≡ 0 }
     ensures answers { FrontAnswers rest.old.text.now rest.new.at result }

@@ -13,20 +13,20 @@ use sheet::NumberKey;
 // How many digits a number of the sheet may have.
 pub(crate) const MOST_DIGITS: usize = 4;
 
-// The number that the bytes write in at most four digits. The cast is proved to lose nothing, where `try_from` would add a case that cannot come.
+// The number that the bytes write in at most four digits.
 fn read_short(digits: &[u8]) -> Option<u16>
     ensures { Read 4 digits.now result }
 {
-    Some(read_number(digits, MOST_DIGITS)? as u16)
+    u16::try_from(read_number(digits, MOST_DIGITS)?).ok()
 }
 
 fn word_entry(key: WordKey, value: Span) -> Result<Entry, SheetFault>
     ensures { ValueAnswers (OfWord key) value.entry.bytes.now value.entry.byte result }
 {
-    Ok(
-        key.entry(value.bytes)
-            .ok_or(ValueFault::BadValue(value.byte))?,
-    )
+    let entry = key
+        .entry(value.bytes)
+        .ok_or(ValueFault::BadValue(value.byte))?;
+    Ok(entry)
 }
 
 fn number_entry(key: NumberKey, value: Span) -> Result<Entry, SheetFault>

@@ -6,6 +6,7 @@ use numerals::write_number;
 use sheet_text::{Entry, Key, Word};
 
 // Memory that is written, and the byte that is written next.
+// No `io::Cursor`: its `write` does not promise that the memory is the same loan, and `write!` promises nothing of lent memory.
 #[derive(Drop)]
 pub(crate) struct Writer<'a> {
     pub(crate) out: &'a mut [u8],

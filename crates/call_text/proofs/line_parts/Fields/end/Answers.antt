@@ -1,9 +1,10 @@
-use Rattle.std.proofs.Common.{◌≡◌, ℕ, ◌+◌, ◌-◌, ◌<◌, ◌≤◌, min, List, length, get_or, drop, Some, None, position, ◌==◌, sym, ap, ◌∙◌, subst, arith}
+use Rattle.std.proofs.Common.{◌≡◌, ℕ, ◌+◌, ◌-◌, ◌<◌, ◌≤◌, min, List, length, get_or, drop, Some, None, Option, position, ◌==◌, sym, ap, ◌∙◌, subst, arith, rules}
+use Rattle.std.specs.Option.{MatchOption}
 use Rattle.std.proofs.lemmas.List.{drop_all, drop_more, get_or-drop, length-drop}
 use Rattle.fields.proofs.Firsts.{first, nowhere}
 use Rattle.call_text.specs.CallTexts.{Parted, space}
 use Rattle.call_text.specs.LineFields.{EndsBehind}
-use Rattle.call_text.proofs.line_parts.field_end.Goals as goal
+use Rattle.call_text.proofs.line_parts.Fields.end.Goals as goal
 
 -- a byte behind the first m ones, counted from there
 from_there : (line : List ℕ) (m k : ℕ) → m ≤ k → get_or (drop m line) (k - m) 0 ≡ get_or line k 0
@@ -31,14 +32,15 @@ at_end line at m is e =
       parted = subst Parted (sym (drop_all (length line) line (omega arith))) tt;
     }
 
-pub returns-in-Some : goal.returns-in-Some
-returns-in-Some c =
-    let s = c.split_at.ensures in
-    rw s.front_len
-    (at_space c.args.line.now c.args.at c.min.result c.in-Some.before (omega (arith, c.min.ensures, c.saturating_add.ensures))
-    (c.in-Some.ensures ∙ ap (λ (t : List ℕ). position (λ (b : ℕ). b == space) t) s.back))
+at_either : (line : List ℕ) (at m r : ℕ) (o : Option ℕ) → m ≡ min (length line) (at + 1) → o ≡ position (λ b. b == space) (drop m line) → MatchOption o (r ≡ length line) (λ n. r ≡ m + n) → EndsBehind line at r
+at_either line at m r (Some n) is e h = subst (EndsBehind line at) (sym h) (at_space line at m n is e)
+at_either line at m r None is e h = subst (EndsBehind line at) (sym h) (at_end line at m is e)
 
-pub returns-in-None : goal.returns-in-None
-returns-in-None c =
-    at_end c.args.line.now c.args.at c.min.result (omega (arith, c.min.ensures, c.saturating_add.ensures))
-    (c.in-None.ensures ∙ ap (λ (t : List ℕ). position (λ (b : ℕ). b == space) t) c.split_at.ensures.back)
+pub returns : goal.returns
+returns c =
+    let line = c.args.self.now.rest.text.now in
+    let size : c.min.result ≡ min (length line) (c.args.self.now.rest.at + 1) = omega (arith, c.min.ensures, c.saturating_add.ensures) in
+    let front = c.split_at.ensures.front_len in
+    let ends : MatchOption c.first_of.result (c.map_or.result ≡ length line) (λ n. c.map_or.result ≡ c.min.result + n) = search (rules, front) in
+    at_either line c.args.self.now.rest.at c.min.result c.map_or.result c.first_of.result size
+    (c.first_of.ensures ∙ ap (λ (t : List ℕ). position (λ (b : ℕ). b == space) t) c.split_at.ensures.back) ends
