@@ -9,7 +9,7 @@ use crate::field::Field;
 use crate::first_byte::first_of;
 use crate::span::Span;
 
-// A text with the byte from which on it is read.
+// A text with the byte from which on it is read. It is made by a literal, which shows that byte where a `From` would hide it.
 #[derive(Clone, Copy, Debug, PartialEq, Eq)]
 pub struct Cursor<'a> {
     pub text: &'a [u8],
