@@ -2,7 +2,7 @@
 // Each is as wide as anything that may be sent: limits are asked by the calls, not here.
 
 // A speed in tenths of km/h.
-#[derive(Clone, Copy, Debug, PartialEq, Eq, PartialOrd, Ord)]
+#[derive(Clone, Copy, Debug, Default, PartialEq, Eq, PartialOrd, Ord)]
 pub struct Speed {
     pub tenths: u64,
 }
@@ -14,7 +14,7 @@ pub struct FineSpeed {
 }
 
 // A distance, or a place along the line, in mm.
-#[derive(Clone, Copy, Debug, PartialEq, Eq, PartialOrd, Ord)]
+#[derive(Clone, Copy, Debug, Default, PartialEq, Eq, PartialOrd, Ord)]
 pub struct Distance {
     pub millimetres: u64,
 }
@@ -32,7 +32,7 @@ pub struct Deceleration {
 }
 
 // A grade in thousandths, uphill positive and downhill negative.
-#[derive(Clone, Copy, Debug, PartialEq, Eq, PartialOrd, Ord)]
+#[derive(Clone, Copy, Debug, Default, PartialEq, Eq, PartialOrd, Ord)]
 pub struct Grade {
     pub thousandths: i64,
 }
