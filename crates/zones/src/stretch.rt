@@ -40,13 +40,17 @@ impl Stretch {
     pub fn zone_within(self, distances: Distances) -> Zone
         ensures { (exact : Three Fraction) → result ≡ zone_of (strong exact (computed distances)) self.front.millimetres self.place.millimetres }
     {
-        let front = self.front.millimetres;
-        let left = self.place.millimetres.saturating_sub(front);
-        if left <= distances.control.millimetres {
+        let left = Distance {
+            millimetres: self
+                .place
+                .millimetres
+                .saturating_sub(self.front.millimetres),
+        };
+        if left <= distances.control {
             Zone::Control
-        } else if left <= distances.warning.millimetres {
+        } else if left <= distances.warning {
             Zone::Warning
-        } else if left <= distances.nominal.millimetres {
+        } else if left <= distances.nominal {
             Zone::Nominal
         } else {
             Zone::Clear
