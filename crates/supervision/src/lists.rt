@@ -61,11 +61,7 @@ pub(crate) fn add_target(
 }
 
 // Adds an item, unless one stands in its way or no more fit.
-fn add<T: Copy>(
-    list: &mut PlaceList<'_, T>,
-    taken: bool,
-    new: Placed<T>,
-) -> Result<(), Refusal>
+fn add<T: Copy>(list: &mut PlaceList<'_, T>, taken: bool, new: Placed<T>) -> Result<(), Refusal>
     ensures { Added taken new list.old list.new result }
 {
     if taken {

@@ -11,7 +11,7 @@ use calls::{Phase, Refusal};
 impl<M: BrakingModel> Mission<M> {
     // Lets the emergency brake go, where the last accepted call was a sample in zone 0.
     // `release` takes the lists for its contract alone, which says of the whole state what a release makes of it.
-    // `Made` speaks of the answer without its phase, which a record holds beside it: a name for this one clause would be longer than the clause.
+    // The clause `phase`: `Made` speaks of the answer without its phase, which a record holds beside it: a name for this one clause would be longer than the clause.
     pub fn release(&mut self, lists: &Lists<'_>) -> Result<Phase, Refusal>
         ensures made { Made M.BrakingModel.meaning Release (answer_of result) self.old self.new lists.now lists.now }
         ensures phase { IfOk result (λ p. p ≡ self.new.phase) }
