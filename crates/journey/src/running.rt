@@ -39,7 +39,7 @@ pub fn run<M: BrakingModel + Drop>(
 }
 
 // Makes the calls in their order, and keeps the record of each.
-// A loop: of a closure that changes the mission, the proof of a chain would know nothing.
+// A loop: a chain's closure would change the mission, and its proof would want an invariant on what the closure holds; the loop's is of the records.
 fn follow<M: BrakingModel>(
     heap: Global,
     mission: &mut Mission<M>,

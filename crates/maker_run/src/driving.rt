@@ -7,9 +7,10 @@ ghost use Rattle.constant_brake.specs.Formulas.{meaning_of};
 use calls::Call;
 use constant_brake::ConstantBrake;
 use journey::{Journey, run};
+use place_list::Placed;
 use sheet::Admitted;
 use std::alloc::Global;
-use supervision::{BLANK_SECTION, BLANK_TARGET, MOST_SECTIONS, MOST_TARGETS};
+use supervision::{MOST_SECTIONS, MOST_TARGETS};
 
 // Opens the sheet with the brake, makes the calls and closes it. The mission's law holds for this brake, by the call's own contract.
 // It lends the memory, as the program `mission` does: what a mission is run in is its caller's.
@@ -20,7 +21,7 @@ pub(crate) fn drive(heap: Global, sheet: Admitted, brake: ConstantBrake, calls: 
     ensures grades { IfOk result.records (λ v. GivesOneGrade v.items) }
     ensures draft { result.draft.values ≡ sheet.values }
 {
-    let mut sections = [BLANK_SECTION; MOST_SECTIONS];
-    let mut targets = [BLANK_TARGET; MOST_TARGETS];
+    let mut sections = [Placed::default(); MOST_SECTIONS];
+    let mut targets = [Placed::default(); MOST_TARGETS];
     run(heap, sheet, brake, &mut sections, &mut targets, calls)
 }

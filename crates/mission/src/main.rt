@@ -5,12 +5,13 @@ use calls::{Call, Record};
 use input::{ONE_TEXT, read_most};
 use journey::{Journey, run};
 use models::SheetModel;
+use place_list::Placed;
 use session::{answers, calls_in, read_lines, sheet_end};
 use sheet::{Admitted, Draft};
 use sheet_text::read_admitted;
 use std::alloc::{AllocError, Global};
 use std::io;
-use supervision::{BLANK_SECTION, BLANK_TARGET, MOST_SECTIONS, MOST_TARGETS};
+use supervision::{MOST_SECTIONS, MOST_TARGETS};
 
 fn main(rt: HostRuntime) -> io::Result<()> {
     let text = read_most(rt.alloc(), rt.stdin(), ONE_TEXT)?;
@@ -32,8 +33,8 @@ fn main(rt: HostRuntime) -> io::Result<()> {
 // Makes the calls in a mission with the model that the sheet names. The program lends the memory: what a mission is run in is its caller's.
 fn make_calls(heap: Global, sheet: Admitted, calls: &[Call]) -> Result<Vec<Record>, AllocError> {
     let model = SheetModel::new(&sheet);
-    let mut sections = [BLANK_SECTION; MOST_SECTIONS];
-    let mut targets = [BLANK_TARGET; MOST_TARGETS];
+    let mut sections = [Placed::default(); MOST_SECTIONS];
+    let mut targets = [Placed::default(); MOST_TARGETS];
     let Journey {
         records,
         draft: Draft { values: _ },

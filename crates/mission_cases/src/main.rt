@@ -5,11 +5,12 @@
 use braking::BrakingModel;
 use input::{MANY_TEXTS, read_most};
 use models::SheetModel;
+use place_list::Placed;
 use session::{Shown, read_lines, sheet_end};
 use sheet::{Admitted, Draft};
 use sheet_text::read_admitted;
 use std::io;
-use supervision::{BLANK_SECTION, BLANK_TARGET, Lists, Mission};
+use supervision::{Lists, Mission};
 
 // The line between two texts.
 const NEXT: &[u8] = b"next\n";
@@ -41,8 +42,8 @@ fn show_mission(rt: &(impl Print + AllocGlobal), text: &[u8]) -> io::Result<()> 
 // Opens the mission, makes the calls and closes it.
 fn show_calls(rt: &(impl Print + AllocGlobal), sheet: Admitted, text: &[u8]) -> io::Result<()> {
     // More memory than a mission's lists use, so that their limits show.
-    let mut section_memory = [BLANK_SECTION; 70];
-    let mut target_memory = [BLANK_TARGET; 40];
+    let mut section_memory = [Placed::default(); 70];
+    let mut target_memory = [Placed::default(); 40];
     let mut lists = Lists::new(&mut section_memory, &mut target_memory);
     let model = SheetModel::new(&sheet);
     let mut mission = Mission::over(sheet, model);

@@ -11,8 +11,7 @@ mod removal;
 use crate::placed::Placed;
 
 // Items in memory that the caller lends, in the order of their places.
-// A mission uses no heap, so this is lent memory with a count beside it, and no Vec. The contracts speak of the room, the loan and
-// the memory behind the items too, which a value of the items alone would not show: so each names its part, as `sequence`.
+// No Vec, since a mission uses no heap. No Model either: the contracts speak of the room, the loan and the memory behind the items too.
 #[derive(Drop)]
 pub struct PlaceList<'a, T> {
     memory: &'a mut [Placed<T>],

@@ -5,7 +5,7 @@ ghost use Rattle.supervision.specs.Limits.{refusal_in, sample_limits, slope_limi
 use calls::Refusal;
 use units::{Distance, FASTEST, FURTHEST, Grade, STEEPEST_FALL, STEEPEST_RISE, Speed};
 
-// Each question takes the call's own fields by name, as the call itself does: a struct of the two would be built for it alone.
+// The parameters are the call's own fields by name, each asked by itself.
 
 // Whether a section is within limits.
 pub(crate) fn ask_slope(place: Distance, grade: Grade) -> Result<(), Refusal>

@@ -1,30 +1,16 @@
-ghost use Rattle.std.specs.Prelude.{◌≡◌, min, [], length, is_some};
+ghost use Rattle.std.specs.Prelude.{◌≡◌, min, [], length};
 ghost use Rattle.place_list.specs.Sequence.{loan_of, memory_of, room};
 ghost use Rattle.supervision.specs.Lists.{Added, SectionAdded, TargetAdded, TargetTakenOut, sections_of, targets_of};
 
 use calls::Refusal;
 use place_list::{Keyed, PlaceList, Placed};
-use units::{Distance, Grade, Speed};
+use units::Grade;
 use zones::Target;
 
 // How many sections and targets a mission's lists hold at most.
 pub const MOST_SECTIONS: usize = 64;
 
 pub const MOST_TARGETS: usize = 32;
-
-// What lent memory may hold before an item is put there.
-pub const BLANK_SECTION: Placed<Grade> = Placed {
-    place: Distance { millimetres: 0 },
-    item: Grade { thousandths: 0 },
-};
-
-pub const BLANK_TARGET: Placed<Target> = Placed {
-    place: Distance { millimetres: 0 },
-    item: Target {
-        number: 0,
-        speed: Speed { tenths: 0 },
-    },
-};
 
 // The two lists of a mission, which go with each of its calls.
 #[derive(Drop)]
@@ -59,8 +45,8 @@ pub(crate) fn add_section(
 ) -> Result<(), Refusal>
     ensures { SectionAdded new.place.millimetres new.item.thousandths sections.old sections.new result }
 {
-    let standing = sections.find_place(new.place);
-    add(sections, standing, new)
+    let taken = sections.find_place(new.place).is_some();
+    add(sections, taken, new)
 }
 
 // Adds a target, unless its number is taken or no more fit.
@@ -70,22 +56,18 @@ pub(crate) fn add_target(
 ) -> Result<(), Refusal>
     ensures { TargetAdded new.item.number new.place.millimetres new.item.speed.tenths targets.old targets.new result }
 {
-    let standing = targets.find_key(new.item.key());
-    add(targets, standing, new)
+    let taken = targets.find_key(new.item.key()).is_some();
+    add(targets, taken, new)
 }
 
 // Adds an item, unless one stands in its way or no more fit.
-fn add<T: Copy>(
-    list: &mut PlaceList<'_, T>,
-    standing: Option<usize>,
-    new: Placed<T>,
-) -> Result<(), Refusal>
-    ensures { Added (is_some standing) new list.old list.new result }
+fn add<T: Copy>(list: &mut PlaceList<'_, T>, taken: bool, new: Placed<T>) -> Result<(), Refusal>
+    ensures { Added taken new list.old list.new result }
 {
-    if standing.is_some() {
+    if taken {
         return Err(Refusal::Taken);
     }
-    // Neither crate of the two refusals knows the other, and a dependence for one arm would be no plainer.
+    // `From` would stand in one of the two crates of the refusals, and neither knows the other.
     list.insert(new).map_err(|_| Refusal::Full)
 }
 

@@ -9,8 +9,8 @@ use calls::Phase;
 use sheet::Admitted;
 
 // An open mission under one braking model. It is moved and never copied: it was opened, and it is closed.
-// It uses no heap: its two lists stand in memory that the caller lends, so they go with each call, and a mission is opened, moved and closed without them.
-// Each call states what it makes and the law that it keeps: that is its promise, and one fact of both would hide the law behind the step.
+// That the two lists stand beside the mission, over memory that the caller lends, and go with each call, was asked for from the start of the project.
+// Each call states what it makes and the law that it keeps: two clauses, so that the law is read without the step.
 pub struct Mission<M> {
     model: M,
     sheet: Admitted,

@@ -1,1 +1,2 @@
+pub mod Grades
 pub mod Verdicts

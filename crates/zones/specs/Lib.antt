@@ -2,4 +2,3 @@ pub mod Announced
 pub mod Computed
 pub mod Items
 pub mod Judging
-pub mod Stretch

@@ -9,13 +9,10 @@ use units::{Distance, Divisor, FURTHEST, quotient_up};
 pub fn target_place(point: Distance, distance: Distance, eps: u16) -> Option<Distance>
     ensures { Placing eps point.millimetres distance.millimetres result }
 {
-    if point > FURTHEST || distance > FURTHEST {
-        return None;
-    }
-    let end = point.millimetres + distance.millimetres;
-    if end > FURTHEST.millimetres {
-        return None;
-    }
+    let end = point
+        .millimetres
+        .checked_add(distance.millimetres)
+        .filter(|end| *end <= FURTHEST.millimetres)?;
     Some(Distance {
         millimetres: end.saturating_sub(cut(distance, eps)),
     })

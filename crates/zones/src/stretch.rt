@@ -4,7 +4,7 @@ ghost use Rattle.braking.specs.Meaning.{Three, strong};
 ghost use Rattle.history.specs.History.{steepest};
 ghost use Rattle.history.specs.Step.{least_grade, zone_of};
 ghost use Rattle.zones.specs.Computed.{computed};
-ghost use Rattle.zones.specs.Items.{section_of, sections_in};
+ghost use Rattle.zones.specs.Items.{sections_in};
 
 use braking::Distances;
 use calls::Zone;
@@ -19,50 +19,41 @@ pub struct Stretch {
 }
 
 impl Stretch {
-    ghost use Rattle.zones.specs.Stretch.{taken_in};
-
     // The least grade of the stretch, both ends counted; at the front once the place is passed.
-    // A loop, since one test both ends it and takes the section in: `take_while` and `fold` would ask it twice.
+    // A section up to the front takes the place of those before it; one further on can only lower the grade.
     pub fn grade_ahead(self, sections: &[Placed<Grade>]) -> Grade
         ensures { result.thousandths ≡ least_grade steepest self.front.millimetres self.place.millimetres (sections_in sections.now) }
     {
-        let mut least = STEEPEST_FALL;
-        for section in sections {
-            let Some(grade) = self.taken_in(least, *section) else {
-                return least;
-            };
-            least = grade;
-        }
-        least
+        sections
+            .iter()
+            .take_while(|section| section.place <= self.front.max(self.place))
+            .fold(STEEPEST_FALL, |least, section| {
+                if section.place <= self.front {
+                    section.item
+                } else {
+                    least.min(section.item)
+                }
+            })
     }
 
     // The zone of the place by the distance left to it, which is none once it is passed.
     pub fn zone_within(self, distances: Distances) -> Zone
         ensures { (exact : Three Fraction) → result ≡ zone_of (strong exact (computed distances)) self.front.millimetres self.place.millimetres }
     {
-        let front = self.front.millimetres;
-        let left = self.place.millimetres.saturating_sub(front);
-        if left <= distances.control.millimetres {
+        let left = Distance {
+            millimetres: self
+                .place
+                .millimetres
+                .saturating_sub(self.front.millimetres),
+        };
+        if left <= distances.control {
             Zone::Control
-        } else if left <= distances.warning.millimetres {
+        } else if left <= distances.warning {
             Zone::Warning
-        } else if left <= distances.nominal.millimetres {
+        } else if left <= distances.nominal {
             Zone::Nominal
         } else {
             Zone::Clear
-        }
-    }
-
-    // The least grade with one more section: its own from the front on, the lower of both ahead. None where it begins beyond the place.
-    fn taken_in(self, least: Grade, section: Placed<Grade>) -> Option<Grade>
-        ensures { result ≡ taken_in least (section_of section) self.front.millimetres self.place.millimetres }
-    {
-        if section.place <= self.front {
-            Some(section.item)
-        } else if section.place <= self.place {
-            Some(least.min(section.item))
-        } else {
-            None
         }
     }
 }

@@ -4,7 +4,7 @@ use place_list::Keyed;
 use units::Speed;
 
 // From its place on, the speed is at most the target's.
-#[derive(Clone, Copy, Debug, PartialEq, Eq)]
+#[derive(Clone, Copy, Debug, Default, PartialEq, Eq)]
 pub struct Target {
     pub number: u16,
     pub speed: Speed,

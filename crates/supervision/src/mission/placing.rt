@@ -12,8 +12,8 @@ use place_list::Placed;
 use units::{Distance, Grade, Speed};
 use zones::{Target, target_place};
 
-// Each of the mission's calls says of its own answer that it holds the phase after it, a fact for itself beside what the call made.
-// The parameters are the call's own fields by name: a struct of two of them would be built for one call and taken apart in it.
+// The clause `phase`: `Made` speaks of the answer without its phase, which a record holds beside it: a name for this one clause would be longer than the clause.
+// The parameters are the call's own fields by name, each asked by itself.
 impl<M: BrakingModel> Mission<M> {
     // Adds a section of this grade, which reaches from its place up to, not at, the next one's.
     pub fn slope(
@@ -64,7 +64,7 @@ impl<M: BrakingModel> Mission<M> {
     }
 
     // Any accepted call but a sample in zone 0 bars a release.
-    fn accept(&mut self) -> Phase
+    pub(super) fn accept(&mut self) -> Phase
         ensures value { result ≡ self.new.phase }
         ensures phase { self.new.phase ≡ self.old.phase }
         ensures clear { self.new.clear ≡ false }

@@ -10,7 +10,8 @@ use calls::{Phase, Refusal};
 
 impl<M: BrakingModel> Mission<M> {
     // Lets the emergency brake go, where the last accepted call was a sample in zone 0.
-    // The clause `phase` is as that of the calls that place something: a fact for itself beside what the call made.
+    // `release` takes the lists for its contract alone, which says of the whole state what a release makes of it.
+    // The clause `phase`: `Made` speaks of the answer without its phase, which a record holds beside it: a name for this one clause would be longer than the clause.
     pub fn release(&mut self, lists: &Lists<'_>) -> Result<Phase, Refusal>
         ensures made { Made M.BrakingModel.meaning Release (answer_of result) self.old self.new lists.now lists.now }
         ensures phase { IfOk result (λ p. p ≡ self.new.phase) }
@@ -20,8 +21,7 @@ impl<M: BrakingModel> Mission<M> {
             return Err(Refusal::NotReleasable);
         }
         self.phase = Phase::Free;
-        self.clear = false;
-        Ok(self.phase)
+        Ok(self.accept())
     }
 
     // The phase is emergency, and the last accepted call was a sample in zone 0.

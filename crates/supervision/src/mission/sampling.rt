@@ -13,7 +13,8 @@ use zones::sample_zone;
 
 impl<M: BrakingModel> Mission<M> {
     // The train's front is at the place and runs this fast: works out the zone and the phase.
-    // The clause `phase` and the parameters are as those of the calls that place something: a fact for itself, and the call's own fields by name.
+    // The clause `phase`: `Made` speaks of the answer without its phase, which a record holds beside it: a name for this one clause would be longer than the clause.
+    // The parameters are the call's own fields by name, each asked by itself.
     pub fn sample(
         &mut self,
         lists: &Lists<'_>,
