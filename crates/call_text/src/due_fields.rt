@@ -10,6 +10,7 @@ use crate::line_parts::Fields;
 use calls::Call;
 use units::{Distance, Grade, Speed};
 
+// The clause `same`: as in `line_parts`, no type says which part of a `&mut` is left alone.
 impl<'a> Fields<'a> {
     // The call of a kind whose fields are the next ones.
     pub(crate) fn call(&mut self, kind: Kind) -> Result<Call, CallFault>

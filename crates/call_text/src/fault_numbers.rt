@@ -22,6 +22,7 @@ impl CallFault {
     }
 
     // The byte of the line that the fault is at: the line's first, 0, where a key or the call is another.
+    // A match: a fault holds the fault below it whole, with its byte, and a byte beside the kind would be a second one.
     pub fn byte(self) -> usize
         ensures { result ≡ fault_byte self }
     {

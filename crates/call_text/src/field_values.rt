@@ -11,6 +11,7 @@ use numerals::read_number;
 
 // A value has its key's form once it is read, so the numbers here are there.
 // Each key with a reader and a type of its own: one function that is passed the reader would be longer than these.
+// The clause `same`: as in `line_parts`, no type says which part of a `&mut` is left alone.
 impl<'a> Fields<'a> {
     // The amount of the next field, which has this key.
     pub(crate) fn amount(&mut self, key: AmountKey) -> Result<u64, CallFault>

@@ -10,7 +10,7 @@ pub(crate) struct Fields<'a> {
     pub(crate) rest: Cursor<'a>,
 }
 
-// Each function of the fields says that the text stays: no type says which part of a `&mut` is left alone.
+// Each function that reads on says that the text stays: no type says which part of a `&mut` is left alone.
 impl<'a> Fields<'a> {
     // The value of the next field, which has this key.
     pub(crate) fn value(&mut self, key: Key) -> Result<Span<'a>, ValueFault>

@@ -38,7 +38,7 @@ impl ConstantBrake {
     }
 
     // The steps from a question to its answer, or why it is turned down. One line: both brakes call `work_out`, but each states the steps by its own formulas.
-    // The two times stand in the clauses as numbers, since definitions speak of numbers and not of the program's structs.
+    // The two times stand in the clauses as numbers: a `LeadTimes` holds the proofs of its bounds too, of which the formulas ask nothing.
     pub fn steps(&self, question: Question) -> Result<Steps, Refusal>
         ensures shown { Shown self.now.stated self.now.lead.tw self.now.lead.ti (question_of question) result }
         ensures plain { Plain self.now.stated self.now.lead.tw self.now.lead.ti }

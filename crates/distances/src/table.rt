@@ -27,7 +27,7 @@ fn show_row(rt: &impl Print, model: &SheetModel, speed: u64, grade: i64) -> io::
     }
 }
 
-// For a stop, a row for each speed in steps of 10 km/h up to the top, and at each speed for each grade.
+// For a stop, a row for each speed in steps of 10 km/h up to the top, and at each speed for each grade. The loop steps through the speeds themselves, and counts no index.
 pub(crate) fn show_table(rt: &impl Print, model: &SheetModel) -> io::Result<()> {
     println!(rt; "speed grade control warning nominal")?;
     for speed in (100..=model.top_speed().speed.tenths).step_by(100) {

@@ -15,6 +15,7 @@ use units::Grade;
 use zones::Target;
 
 // Opens the sheet as a mission over the model, makes the calls in their order, with its lists over the memory that is lent, and closes it.
+// `heap` and `calls` come as two, here and below: the one is where a vector is taken from, the other what the mission is told, and a struct of both would be built for one call.
 pub fn run<M: BrakingModel + Drop>(
     heap: Global,
     sheet: Admitted,

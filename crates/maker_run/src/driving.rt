@@ -13,7 +13,7 @@ use std::alloc::Global;
 use supervision::{MOST_SECTIONS, MOST_TARGETS};
 
 // Opens the sheet with the brake, makes the calls and closes it. The mission's law holds for this brake, by the call's own contract.
-// It lends the memory, as the program `mission` does: what a mission is run in is its caller's.
+// It lends the memory, as the program `mission` does: what a mission is run in is its caller's. `heap` and `calls` come as two, as in `journey`.
 pub(crate) fn drive(heap: Global, sheet: Admitted, brake: ConstantBrake, calls: &[Call]) -> Journey
     ensures calls { IfOk result.records (λ v. map (λ e. e.call) v.items ≡ calls.now) }
     ensures history { IfOk result.records (λ v. v.items ≡ history_of sheet.values.eps (meaning_of brake.stated brake.lead.tw brake.lead.ti) (start 64 32) calls.now) }

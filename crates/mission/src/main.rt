@@ -30,7 +30,7 @@ fn main(rt: HostRuntime) -> io::Result<()> {
     Ok(())
 }
 
-// Makes the calls in a mission with the model that the sheet names. The program lends the memory: what a mission is run in is its caller's.
+// Makes the calls in a mission with the model that the sheet names. The program lends the memory: what a mission is run in is its caller's. `heap` and `calls` come as two, as in `journey`.
 fn make_calls(heap: Global, sheet: Admitted, calls: &[Call]) -> Result<Vec<Record>, AllocError> {
     let model = SheetModel::new(&sheet);
     let mut sections = [Placed::default(); MOST_SECTIONS];

@@ -11,7 +11,7 @@ use sheet::{Draft, Rejected, Values};
 use std::io;
 use units::{Grade, Speed};
 
-// The model of a sheet that is admitted.
+// The model of a sheet that is admitted. A match: the draft that comes back is moved and is taken apart, so `.ok()` does not serve.
 fn model_of(values: Values) -> Option<SheetModel> {
     match (Draft { values }).admit() {
         Ok(sheet) => {

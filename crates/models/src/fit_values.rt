@@ -13,7 +13,7 @@ pub struct FitValues {
 }
 
 impl FitValues {
-    // The warning and the hysteresis time.
+    // The warning and the hysteresis time: made here, since the crate that they are of knows no sheet.
     pub(crate) fn lead(&self) -> LeadTimes
         ensures tw { result.tw ≡ self.now.values.tw }
         ensures ti { result.ti ≡ self.now.values.ti }

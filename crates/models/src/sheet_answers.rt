@@ -14,7 +14,7 @@ use braking::{BrakingModel, Distances, Question, Refusal, TopSpeed};
 use sheet::{Admitted, Model};
 use stopping::Steps;
 
-// Each of these hands a call on to the model that is there: a match over two types, plainer than a boxed one, and with no heap.
+// All but `new` hand a call on to the model that is there: a match over two types, plainer than a boxed one, and with no heap.
 impl SheetModel {
     // The model that an admitted sheet names, with its values.
     pub fn new(sheet: &Admitted) -> SheetModel

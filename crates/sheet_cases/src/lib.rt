@@ -81,7 +81,7 @@ mod tests {
 
     #[test]
     fn values_beyond_their_limits_are_refused(rt: HostRuntime) {
-        // as above but for the number: a function of both would answer whether all are so, and hide which is not
+        // as above but for the number: a function of both would answer whether all are so, and the assertion would not print the answer that is not
         for (key, value) in &BEYOND {
             let values = FINE.with(*key, *value);
             assert_eq!(rt; answer(values), (4, values.eps));

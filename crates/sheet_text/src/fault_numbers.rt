@@ -55,7 +55,7 @@ impl Layer {
     }
 }
 
-// A layer prints as its word.
+// A layer prints as its word: one impl for one type, since `Display` is a foreign trait, and none may serve all types at once.
 impl fmt::Display for Layer {
     ghost output = { λ layer. Some (layer_word layer) };
 

@@ -16,7 +16,7 @@ fn show(rt: &impl Print, text: &[u8]) -> io::Result<()> {
     }
 }
 
-// As in the program for the lines of calls, but for what is shown: a function of both would be passed what prints, and no clause could say what that prints.
+// As in the program for the lines of calls, but for what is shown: a function of both would be passed the handle, the input and what shows a text, and be no shorter than these lines.
 fn main(rt: HostRuntime) -> io::Result<()> {
     let texts = read_most(rt.alloc(), rt.stdin(), MANY_TEXTS)?;
     for text in ended_texts(rt.alloc(), texts.as_slice(), TEXT_END)?.as_slice() {

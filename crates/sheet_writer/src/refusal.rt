@@ -21,7 +21,7 @@ impl Refusal {
     }
 }
 
-// A refusal prints as its answer.
+// A refusal prints as the answer that it is: one impl for one type, since `Display` is a foreign trait, and none may serve all types at once.
 impl fmt::Display for Refusal {
     ghost output = { λ refusal. Some (codes "answer=" ++ decimal (number refusal)) };
 

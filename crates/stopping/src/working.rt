@@ -45,6 +45,7 @@ impl Stop {
         let answer = if is_weak(net) {
             None
         } else {
+            // a cast, here and below: `From` goes only to what holds every value, and the check proves that the cast loses nothing
             Some(self.distances(reached, net.units as u64))
         };
         Steps {
@@ -66,7 +67,6 @@ impl Stop {
     }
 
     // The speed after a loss, in fine steps; a loss below zero is a gain.
-    // A cast, here and below: `From` goes only to what holds every value, and the check proves that the cast loses nothing.
     fn after_loss(&self, loss: i64) -> i64
         requires not_below { negsuc 907199 ≤ℤ loss }
         requires not_above { loss ≤ℤ pos 907200 }

@@ -60,7 +60,7 @@ pub(crate) fn add_target(
     add(targets, taken, new)
 }
 
-// Adds an item, unless one stands in its way or no more fit.
+// Adds an item, unless one stands in its way or no more fit. The list and the item come as two: a struct of both would be built for one call.
 fn add<T: Copy>(list: &mut PlaceList<'_, T>, taken: bool, new: Placed<T>) -> Result<(), Refusal>
     ensures { Added taken new list.old list.new result }
 {
