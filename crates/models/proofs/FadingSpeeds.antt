@@ -1,6 +1,7 @@
 -- Every entry of the table of VL is the greatest number of its rule, by one test that is computed at each.
 use Rattle.std.proofs.Common.{◌≡◌, ℕ, suc, ◌+◌, ◌-◌, ◌*◌, ◌/◌, ◌%◌, ◌^◌, ◌<◌, ◌≤◌, Bool, true, ◌&&◌, ltb, leb, get_or, refl, subst, le_trans, lt_of_lt_of_le, lt_irrefl, arith}
 use native.Mathlib.Nat.{pow-le-pow_left}
+use native.Mathlib.Omega.{by_contra}
 use Rattle.std.proofs.lemmas.Bool.{and_parts, leb-true, ltb-true}
 use Rattle.models.specs.Vl.{Greatest, entries, vl}
 use Rattle.models.proofs.Tables.{every, holds}
@@ -10,9 +11,6 @@ next_too_great : (e bound n m : ℕ) → bound < (10 * suc n) ^ e → (10 * m) ^
 next_too_great e bound n m over small above =
     let more : 10 * suc n ≤ 10 * m = omega arith in
     lt_irrefl bound (lt_of_lt_of_le over (le_trans (pow-le-pow_left more e) small))
-
-not_above : (n m : ℕ) → (n < m → ⊥) → m ≤ n
-not_above n m f = omega arith
 
 within : ℕ → ℕ → Bool
 within k n = leb ((10 * n) ^ 1000) (1617 ^ 1000 * (45 + 5 * k) ^ 443)
@@ -31,7 +29,7 @@ rightly : (k n : ℕ) → right k n ≡ true → Greatest (45 + 5 * k) n
 unfolding right within next_over
 rightly k n e = record {
   within = leb-true _ _ (and_parts (within k n) (next_over k n) e).0;
-  greatest = λ m h. not_above n m (next_too_great 1000 _ n m (ltb-true _ _ (and_parts (within k n) (next_over k n) e).1) h);
+  greatest = λ m h. by_contra m n (next_too_great 1000 _ n m (ltb-true _ _ (and_parts (within k n) (next_over k n) e).1) h);
 }
 
 pub greatest : (lambda : ℕ) → 45 ≤ lambda → lambda ≤ 160 → lambda % 5 ≡ 0 → Greatest lambda (vl lambda)

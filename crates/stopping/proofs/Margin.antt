@@ -12,7 +12,7 @@ use Rattle.stopping.specs.Working.{Lawful, Uncut}
 use Rattle.stopping.proofs.Terms.{sum_within, within_more, speed_term, braking_term}
 use Rattle.stopping.proofs.Reaching.{reached_not_below, reached_up_bounded}
 
-natural_is : (z : ℤ) (n : ℕ) → pos n ≤ℤ z → pos (natural z) ≡ z
+pub natural_is : (z : ℤ) (n : ℕ) → pos n ≤ℤ z → pos (natural z) ≡ z
 natural_is (pos a) n h = refl
 natural_is (negsuc a) n h = omega (arith, ints)
 

@@ -7,13 +7,9 @@ use Rattle.stopping.specs.Stops.{Stop, natural, target_steps, reached, reached_u
 use Rattle.stopping.specs.Working.{stop_of}
 use Rattle.stopping.proofs.Limits.{limited}
 use Rattle.stopping.proofs.Losses.{factors_lose}
-use Rattle.stopping.proofs.Margin.{lawful, uncut}
+use Rattle.stopping.proofs.Margin.{lawful, natural_is, uncut}
 use Rattle.stopping.proofs.stop.Stop.steps.Goals as goal
 use Rattle.stopping.proofs.stop.Stop.steps.Goals.{then-is_weak, else-is_weak}
-
-natural_is : (z : ℤ) → pos 0 ≤ℤ z → z ≡ pos (natural z)
-natural_is (pos n) h = refl
-natural_is (negsuc n) h = omega (arith, ints)
 
 net_fits : (b G : ℤ) → pos 0 ≤ℤ b → b ≤ℤ pos 1000000000 → negsuc 4199999 ≤ℤ G → G ≤ℤ pos 4200000 → to_z w64 (of_z w64 (pos (natural b) +ℤ G)) ≡ pos (natural b) +ℤ G
 net_fits (pos n) G h k low high = omega (arith, ints)
@@ -44,7 +40,7 @@ unfolding reached_up reached
 returns c =
     let self = c.args.self.now in
     let G : ℤ = self.slope.units in
-    let is-net : c.net-net.result.units ≡ pos (natural self.braking.units) +ℤ G = c.net-net.ensures ∙ ap (λ (z : ℤ). z +ℤ G) (natural_is self.braking.units self.braking_on) in
+    let is-net : c.net-net.result.units ≡ pos (natural self.braking.units) +ℤ G = c.net-net.ensures ∙ ap (λ (z : ℤ). z +ℤ G) (sym (natural_is self.braking.units 0 self.braking_on)) in
     let fits = net_fits self.braking.units G self.braking_on self.braking_bounded self.not_steeper_down self.not_steeper_up in
     let tested : c.is_weak.result ≡ lt_z (pos (natural self.braking.units) +ℤ G) (pos 500000) = simp is-net at c.is_weak.ensures in
     record {
