@@ -1,21 +1,16 @@
 -- The meaning of the brake in plain words.
-use Rattle.std.proofs.Common.{◌≡◌, ℕ, ◌+◌, ◌-◌, ◌*◌, ◌<◌, ◌≤◌, true, false, ltb, leb, ℤ, pos, negsuc, ◌+ℤ◌, ◌-ℤ◌, ◌*ℤ◌, ◌≤ℤ◌, ◌<ℤ◌, refl, ap, le_of_lt, mul-le-mul, arith}
+use Rattle.std.proofs.Common.{◌≡◌, ℕ, ◌+◌, ◌-◌, ◌*◌, ◌<◌, ◌≤◌, true, false, ℤ, pos, negsuc, ◌+ℤ◌, ◌-ℤ◌, ◌≤ℤ◌, ◌<ℤ◌, refl, ap, le_of_lt, mul-le-mul, arith}
 use lib.Signed.{lt_z}
-use Rattle.std.proofs.lemmas.Bool.{cond_both}
 use Rattle.std.proofs.lemmas.Int.{ints}
 use Rattle.units.specs.Fractions.{Fraction, ratio, ◌≈◌, ◌⊕◌}
 use Rattle.braking.specs.Meaning.{Question, weak}
 use Rattle.braking.specs.Laws.{Strong}
 use Rattle.stopping.specs.Slopes.{slope_of}
+use Rattle.stopping.proofs.Gradients.{slope_least}
 use Rattle.stopping.specs.Stops.{Stop, natural, reached, net_exact, net_positive, run, braked, exact_control, exact_distances, verdict}
 use Rattle.constant_brake.specs.Formulas.{stop_for, meaning_of}
 use Rattle.constant_brake.specs.Plain.{Plain, ExactControl, together, on_the_level, level_control}
 use Rattle.constant_brake.specs.declared.brake_data.BrakeData.{BrakeData}
-
--- the steepest fall takes 3,776,850 units
-slope_least : (grade : ℤ) → negsuc 34 ≤ℤ grade → negsuc 3776849 ≤ℤ slope_of grade
-slope_least (pos n) h = cond_both (ltb 0 n) 90 100 (λ (k : ℕ). negsuc 3776849 ≤ℤ ((pos k *ℤ pos n) *ℤ pos 981)) (λ e. omega (arith, ints)) (λ e. omega (arith, ints))
-slope_least (negsuc n) h = cond_both (leb n 19) 100 110 (λ (k : ℕ). negsuc 3776849 ≤ℤ ((pos k *ℤ negsuc n) *ℤ pos 981)) (λ e. omega (arith, ints)) (λ e. omega (arith, ints))
 
 enough : (a : ℕ) (G : ℤ) → 428 ≤ a → negsuc 3776849 ≤ℤ G → pos 500000 ≤ℤ (pos (10000 * a) +ℤ G)
 enough a (pos g) h k = omega (arith, ints)
