@@ -1,6 +1,6 @@
 -- A text is taken exactly where it is the text of a sheet that can be admitted, and of one sheet only.
 use Rattle.std.proofs.Common.{◌≡◌, ℕ, ◌<◌, true, false, List, [], ◌∷◌, ◌++◌, map, length, get_or, drop, Ok, Err, Result, sym, refl, ap, ◌∙◌, subst, append_assoc, append-nil, arith}
-use mathlib.Core.List.{append_cancel_left}
+use mathlib.Core.List.{append_cancel_left, map-eq-nil_iff}
 use Rattle.std.specs.List.{AllByRecursion}
 use Rattle.std.proofs.lemmas.Fmt.{decimal_injective as same_from_decimal}
 use Rattle.std.proofs.lemmas.List.{get_or_at, length-append}
@@ -28,7 +28,7 @@ use Rattle.sheet_text.specs.declared.entry.Entry.TheVariants.{Model as OfModel, 
 use Rattle.sheet_text.specs.declared.faults.SheetFault.{SheetFault}
 use Rattle.sheet_text.specs.declared.faults.SheetFault.TheVariants.{Value, OutOfRange, LeftOver, GoodsBrake}
 use Rattle.sheet_text.specs.declared.key.Key.{Key}
-use Rattle.sheet_text.proofs.Completeness.{ValuedBy, entry, of_key, none_left}
+use Rattle.sheet_text.proofs.Completeness.{ValuedBy, entry, of_key}
 use Rattle.sheet_text.proofs.FeedFree.{split_same, small, core, core_free, core_short, line_is, value_short}
 
 same_model : (x y : Model) → model_word x ≡ model_word y → x ≡ y
@@ -108,7 +108,7 @@ fronts_same : (v w : Values) (rest : List ℕ) → in_ranges v ≡ true → in_r
 unfolding written
 fronts_same v w rest rv rw e =
     let on = goes_on (entries_of v) (entries_of w) rest [] (entries_ranged v rv) (entries_ranged w rw) refl e in
-    let none : on.others ≡ [] = none_left on.others on.their_keys in
+    let none : on.others ≡ [] = (map-eq-nil_iff key_of).0 on.their_keys in
     (ap (λ (es : List Entry). puts es blank) (sym (on.all ∙ (ap (λ (t : List Entry). entries_of v ++ t) none ∙ append-nil (entries_of v)))), on.text ∙ ap lines none)
 
 -- the value of an entry is one that its key may have
