@@ -6,6 +6,7 @@ use Rattle.std.proofs.ByRecursion.{All-push}
 use Rattle.sheet.specs.Ranges.{in_ranges}
 use Rattle.sheet.specs.declared.values.Values.{Values}
 use Rattle.sheet_text.proofs.Completeness.{complete, all_ranged}
+use Rattle.sheet_text.proofs.MoreLines.{lines_push}
 use Rattle.sheet_text.specs.Entries.{key_of, keys, line_text, lines, written}
 use Rattle.sheet_text.specs.Reading.{Ranged, LineAnswers, LineFault}
 use Rattle.sheet_text.specs.Sheets.{put, puts, blank, Stops, Fronts}
@@ -24,10 +25,6 @@ pub record Progress (text : List ℕ) (i at : ℕ) (v : Values) : Type 0 where
 
 pub start : (text : List ℕ) → Progress text 0 0 blank
 start text = record { done = []; in_order = refl; ranged = tt; fine = refl; place = refl; within = omega arith; values = refl }
-
-lines_push : (es : List Entry) (e : Entry) → lines (es ++ e ∷ []) ≡ lines es ++ line_text e
-lines_push [] e = append-nil (line_text e)
-lines_push (x ∷ es) e = ap (λ (t : List ℕ). line_text x ++ t) (lines_push es e) ∙ sym (append_assoc (line_text x) (lines es) (line_text e))
 
 puts_push : (es : List Entry) (e : Entry) (v : Values) → puts (es ++ e ∷ []) v ≡ put e (puts es v)
 puts_push [] e v = refl
