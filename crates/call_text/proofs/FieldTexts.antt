@@ -17,7 +17,7 @@ use Rattle.call_text.specs.LineFields.{EndsBehind, Holds, HasOtherKey, SpanAnswe
 use Rattle.call_text.specs.declared.key.AmountKey.TheVariants.{Place, Point, Distance, Speed}
 use Rattle.call_text.specs.declared.key.Key.{Key}
 use Rattle.call_text.specs.declared.key.Key.TheVariants.{Call as CallKey, Number, Grade, Amount}
-use Rattle.call_text.proofs.Separators.{Without, above, above_without}
+use Rattle.fields.proofs.Separators.{Without, above, above_without}
 
 -- what stands from the second byte of a key up to its equals sign
 abbrev name_and_sign : Key → List ℕ

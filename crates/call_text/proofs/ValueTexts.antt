@@ -2,17 +2,16 @@
 use Rattle.std.proofs.Common.{◌≡◌, ℕ, suc, ◌^◌, ◌<◌, ◌≤◌, List, ◌∷◌, length, ℤ, pos, negsuc, decimal, refl, ap, ◌∙◌, subst, arith}
 use lib.Signed.{mag}
 use Rattle.std.specs.Fmt.{signed_decimal}
-use Rattle.std.proofs.lemmas.Fmt.{digits_decimal, length-decimal-le, signed_decimal_injective}
+use Rattle.std.proofs.lemmas.Fmt.{length-decimal-le, signed_decimal_injective}
 use Rattle.numerals.specs.Numerals.{Writes}
-use Rattle.numerals.proofs.Plainness.{own}
 use Rattle.numerals.proofs.Spelling.{under_ten_digits}
+use Rattle.fields.proofs.Separators.{Without, without_more, digits_high}
 use Rattle.fields.specs.Fields.{Fits}
 use Rattle.fields.specs.Signed.{WritesSigned}
 use Rattle.call_text.specs.CallTexts.{due_of, Good}
 use Rattle.call_text.specs.LineFields.{Holds, Stands}
 use Rattle.call_text.specs.declared.key.Key.{Key}
 use Rattle.call_text.specs.declared.key.Key.TheVariants.{Call as CallKey, Number, Grade, Amount}
-use Rattle.call_text.proofs.Separators.{Without, without_more}
 
 pub small : (k : Key) (z : ℤ) → Good k z → mag z < 10 ^ 10
 small CallKey z g = absurd g
@@ -22,9 +21,6 @@ small Grade (pos n) g = g
 small Grade (negsuc n) g = omega arith
 small (Amount k) (pos n) g = g
 small (Amount k) (negsuc n) g = absurd g
-
-digits_high : (n s : ℕ) → n < 2 ^ 64 → s < 45 → Without s (decimal n)
-digits_high n s h low k l e = omega (arith, (digits_decimal own n h k l).0)
 
 -- no byte below a minus is in the text of a number
 pub signed_high : (z : ℤ) (s : ℕ) → mag z < 10 ^ 10 → s < 45 → Without s (signed_decimal z)

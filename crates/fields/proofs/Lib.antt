@@ -1,3 +1,4 @@
 pub mod Ending
 pub mod Firsts
+pub mod Separators
 mod Signs

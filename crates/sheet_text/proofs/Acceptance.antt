@@ -1,10 +1,11 @@
 -- A text is taken exactly where it is the text of a sheet that can be admitted, and of one sheet only.
 use Rattle.std.proofs.Common.{◌≡◌, ℕ, ◌<◌, true, false, List, [], ◌∷◌, ◌++◌, map, length, get_or, drop, Ok, Err, Result, sym, refl, ap, ◌∙◌, subst, append_assoc, append-nil, arith}
-use mathlib.Core.List.{append_cancel_left}
+use mathlib.Core.List.{append_cancel_left, map-eq-nil_iff}
 use Rattle.std.specs.List.{AllByRecursion}
 use Rattle.std.proofs.lemmas.Fmt.{decimal_injective as same_from_decimal}
 use Rattle.std.proofs.lemmas.List.{get_or_at, length-append}
 use Rattle.std.proofs.lemmas.Bool.{and_parts}
+use Rattle.fields.proofs.Separators.{split_at}
 use Rattle.fields.specs.Keys.{Keyed}
 use Rattle.fields.specs.Lines.{Begins}
 use Rattle.fields.specs.declared.faults.ValueFault.TheVariants.{Text, OtherKey, BadValue}
@@ -28,8 +29,8 @@ use Rattle.sheet_text.specs.declared.entry.Entry.TheVariants.{Model as OfModel, 
 use Rattle.sheet_text.specs.declared.faults.SheetFault.{SheetFault}
 use Rattle.sheet_text.specs.declared.faults.SheetFault.TheVariants.{Value, OutOfRange, LeftOver, GoodsBrake}
 use Rattle.sheet_text.specs.declared.key.Key.{Key}
-use Rattle.sheet_text.proofs.Completeness.{ValuedBy, entry, of_key, none_left}
-use Rattle.sheet_text.proofs.FeedFree.{split_same, small, core, core_free, core_short, line_is, value_short}
+use Rattle.sheet_text.proofs.Completeness.{ValuedBy, entry, of_key}
+use Rattle.sheet_text.proofs.FeedFree.{small, core, core_free, core_short, line_is, value_short}
 
 same_model : (x y : Model) → model_word x ≡ model_word y → x ≡ y
 same_model Scmt Scmt e = refl
@@ -84,7 +85,7 @@ goes_on (x ∷ es) [] rest ks re rf is e = let z : ◌≡◌ {A = ℕ} 0 1 = cc 
 goes_on (x ∷ es) (y ∷ fs) rest ks re rf is e =
     let key : key_of y ≡ key_of x = cc in
     let more : map key_of fs ≡ map key_of es ++ ks = cc in
-    let cut = split_same (core x) (core y) (lines es ++ rest) (lines fs) (core_free x re.0) (core_free y rf.0)
+    let cut = split_at 10 (core x) (core y) (lines es ++ rest) (lines fs) (core_free x re.0) (core_free y rf.0)
     (sym (line_is x (lines es ++ rest)) ∙ (sym (append_assoc (line_text x) (lines es) rest) ∙ (e ∙ line_is y (lines fs)))) in
     let names : name_of (key_of x) ++ 61 ∷ value_text x ≡ name_of (key_of x) ++ 61 ∷ value_text y = cut.0 ∙ ap (λ (k : Key). name_of k ++ 61 ∷ value_text y) key in
     let tails : 61 ∷ value_text x ≡ 61 ∷ value_text y = append_cancel_left (name_of (key_of x)) (61 ∷ value_text x) (61 ∷ value_text y) names in
@@ -108,7 +109,7 @@ fronts_same : (v w : Values) (rest : List ℕ) → in_ranges v ≡ true → in_r
 unfolding written
 fronts_same v w rest rv rw e =
     let on = goes_on (entries_of v) (entries_of w) rest [] (entries_ranged v rv) (entries_ranged w rw) refl e in
-    let none : on.others ≡ [] = none_left on.others on.their_keys in
+    let none : on.others ≡ [] = (map-eq-nil_iff key_of).0 on.their_keys in
     (ap (λ (es : List Entry). puts es blank) (sym (on.all ∙ (ap (λ (t : List Entry). entries_of v ++ t) none ∙ append-nil (entries_of v)))), on.text ∙ ap lines none)
 
 -- the value of an entry is one that its key may have
@@ -123,7 +124,7 @@ valued (OfNumber k n) r = let short = value_short (OfNumber k n) r in (n, record
 module _ (e : Entry) (r : Ranged e) (bytes rest : List ℕ) (is : bytes ≡ line_text e ++ rest) where
   -- a line that the bytes begin with is that of the entry
   line_same : (line : List ℕ) → Begins 32 bytes line → line ≡ core e
-  line_same line b = (split_same line (core e) b.behind.0 rest b.none_before (core_free e r) (sym b.behind.1 ∙ (is ∙ line_is e rest))).0
+  line_same line b = (split_at 10 line (core e) b.behind.0 rest b.none_before (core_free e r) (sym b.behind.1 ∙ (is ∙ line_is e rest))).0
 
   value_same : (line value : List ℕ) → Begins 32 bytes line → Keyed (name_of (key_of e)) line value → value ≡ value_text e
   value_same line value b k =

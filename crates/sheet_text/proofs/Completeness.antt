@@ -1,5 +1,6 @@
 -- Twelve entries with the twelve keys are the entries of a sheet.
 use Rattle.std.proofs.Common.{◌≡◌, ℕ, true, List, [], ◌∷◌, map, refl, ap, ◌∙◌, subst, arith}
+use mathlib.Core.List.{map-eq-nil_iff}
 use Rattle.std.specs.List.{AllByRecursion}
 use Rattle.std.proofs.lemmas.Bool.{and_from}
 use Rattle.sheet.specs.Ranges.{in_ranges}
@@ -65,10 +66,6 @@ first (e ∷ es) k ks is =
     let x = of_key k e head in
     (x.0, es, ap (λ (y : Entry). y ∷ es) x.1, tail)
 
-pub none_left : (es : List Entry) → map key_of es ≡ [] → es ≡ []
-none_left [] is = refl
-none_left (e ∷ es) is = let z : ◌≡◌ {A = ℕ} 0 1 = cc in absurd (omega arith)
-
 pub complete : (es : List Entry) → map key_of es ≡ keys → (v : Values) × (es ≡ entries_of v)
 complete es is =
     let a = first es _ _ is in
@@ -86,7 +83,7 @@ complete es is =
       record { model = a.0; regime = b.0; train = c.0; brake = d.0; ep = e.0; lambda = f.0; length = g.0; lfren = h.0; kr = i.0; tw = j.0; ti = k.0; eps = l.0 },
       a.2 ∙ ap (λ (t : List Entry). OfModel a.0 ∷ t) (b.2 ∙ ap (λ (t : List Entry). OfRegime b.0 ∷ t) (c.2 ∙ ap (λ (t : List Entry). OfTrain c.0 ∷ t) (d.2 ∙ ap (λ (t : List Entry). OfBrake d.0 ∷ t)
           (e.2 ∙ ap (λ (t : List Entry). OfNumber Ep e.0 ∷ t) (f.2 ∙ ap (λ (t : List Entry). OfNumber Lambda f.0 ∷ t) (g.2 ∙ ap (λ (t : List Entry). OfNumber Length g.0 ∷ t) (h.2 ∙ ap (λ (t : List Entry). OfLfren h.0 ∷ t)
-          (i.2 ∙ ap (λ (t : List Entry). OfNumber Kr i.0 ∷ t) (j.2 ∙ ap (λ (t : List Entry). OfNumber Tw j.0 ∷ t) (k.2 ∙ ap (λ (t : List Entry). OfNumber Ti k.0 ∷ t) (l.2 ∙ ap (λ (t : List Entry). OfNumber Eps l.0 ∷ t) (none_left l.1 l.3)))))))))))),
+          (i.2 ∙ ap (λ (t : List Entry). OfNumber Kr i.0 ∷ t) (j.2 ∙ ap (λ (t : List Entry). OfNumber Tw j.0 ∷ t) (k.2 ∙ ap (λ (t : List Entry). OfNumber Ti k.0 ∷ t) (l.2 ∙ ap (λ (t : List Entry). OfNumber Eps l.0 ∷ t) ((map-eq-nil_iff key_of).0 l.3)))))))))))),
     )
 
 -- where every entry is in range, the sheet is

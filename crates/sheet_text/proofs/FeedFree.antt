@@ -1,9 +1,9 @@
 -- The text of an entry has no line feed before its end, and is short.
-use Rattle.std.proofs.Common.{◌≡◌, ℕ, zero, suc, ◌<◌, ◌≤◌, Bool, true, ◌&&◌, ltb, leb, List, [], ◌∷◌, ◌++◌, length, get_or, decimal, sym, refl, ap, ◌∙◌, append_assoc, le_of_suc-le-suc, arith}
-use Rattle.std.proofs.lemmas.Fmt.{digits_decimal, length-decimal-le}
+use Rattle.std.proofs.Common.{◌≡◌, ℕ, ◌<◌, ◌≤◌, true, leb, List, [], ◌∷◌, ◌++◌, length, sym, refl, ap, ◌∙◌, append_assoc, arith}
+use Rattle.std.proofs.lemmas.Fmt.{length-decimal-le}
 use Rattle.std.proofs.lemmas.List.{length-append}
-use Rattle.std.proofs.lemmas.Bool.{and_parts, leb-true, ltb-true}
-use Rattle.numerals.proofs.Plainness.{own}
+use Rattle.std.proofs.lemmas.Bool.{and_parts, leb-true}
+use Rattle.fields.proofs.Separators.{Without, without_more, above, above_without, without_joined, digits_high}
 use Rattle.sheet.specs.Ranges.{in_range}
 use Rattle.sheet.specs.declared.words.Model.TheVariants.{Scmt, Etcs}
 use Rattle.sheet.specs.declared.words.Regime.TheVariants.{Operation, Trial}
@@ -19,43 +19,6 @@ use Rattle.sheet_text.specs.declared.key.Key.{Key}
 use Rattle.sheet_text.specs.declared.key.Key.TheVariants.{Word, Number}
 use Rattle.sheet_text.specs.declared.key.WordKey.TheVariants.{Model as ModelKey, Regime as RegimeKey, Train as TrainKey, Brake as BrakeKey, Lfren as LfrenKey}
 
-abbrev pub Free : List ℕ → Type 0
-Free bytes = (k : ℕ) → k < length bytes → get_or bytes k 0 ≡ 10 → ⊥
-
-free_none : Free []
-free_none k h e = omega arith
-
-free_more : (b : ℕ) (bytes : List ℕ) → (b ≡ 10 → ⊥) → Free bytes → Free (b ∷ bytes)
-free_more b bytes other rest zero h e = other e
-free_more b bytes other rest (suc k) h e = rest k (le_of_suc-le-suc h) e
-
--- every byte is above a line feed
-above : List ℕ → Bool
-above [] = true
-above (b ∷ bytes) = ltb 10 b && above bytes
-
-above_free : (bytes : List ℕ) → above bytes ≡ true → Free bytes
-unfolding above
-above_free [] e = free_none
-above_free (b ∷ bytes) e =
-    let parts = and_parts (ltb 10 b) (above bytes) e in
-    free_more b bytes (λ same. omega (arith, ltb-true 10 b parts.0)) (above_free bytes parts.1)
-
-free_joined : (a b : List ℕ) → Free a → Free b → Free (a ++ b)
-free_joined [] b fa fb = fb
-free_joined (x ∷ a) b fa fb = free_more x (a ++ b) (λ e. fa 0 (omega arith) e) (free_joined a b (λ k h e. fa (suc k) (omega arith) e) fb)
-
--- where the first line feeds of two texts stand, the parts before and behind them are the same
-pub split_same : (a b x y : List ℕ) → Free a → Free b → a ++ 10 ∷ x ≡ b ++ 10 ∷ y → (a ≡ b) × (x ≡ y)
-split_same [] [] x y fa fb e = (refl, cc)
-split_same [] (d ∷ b) x y fa fb e = let z : d ≡ 10 = cc in absurd (fb 0 (omega arith) z)
-split_same (c ∷ a) [] x y fa fb e = let z : c ≡ 10 = cc in absurd (fa 0 (omega arith) z)
-split_same (c ∷ a) (d ∷ b) x y fa fb e =
-    let heads : c ≡ d = cc in
-    let tails : a ++ 10 ∷ x ≡ b ++ 10 ∷ y = cc in
-    let rest = split_same a b x y (λ k h i. fa (suc k) (omega arith) i) (λ k h i. fb (suc k) (omega arith) i) tails in
-    (ap (λ (h : ℕ). h ∷ a) heads ∙ ap (λ (t : List ℕ). d ∷ t) rest.0, rest.1)
-
 -- a number in range is small
 pub small : (k : NumberKey) (n : ℕ) → in_range k n ≡ true → n ≤ 1000
 small Ep n h = omega (arith, leb-true n 1 h)
@@ -66,44 +29,41 @@ small Tw n h = omega (arith, leb-true n 100 h)
 small Ti n h = omega (arith, leb-true n 100 h)
 small Eps n h = omega (arith, leb-true n 20 h)
 
-digits_free : (n : ℕ) → n ≤ 1000 → Free (decimal n)
-digits_free n h k l e = omega (arith, (digits_decimal own n (omega arith) k l).0)
-
-pub value_free : (e : Entry) → Ranged e → Free (value_text e)
+pub value_free : (e : Entry) → Ranged e → Without 10 (value_text e)
 unfolding above
-value_free (OfModel Scmt) r = above_free (value_text (OfModel Scmt)) refl
-value_free (OfModel Etcs) r = above_free (value_text (OfModel Etcs)) refl
-value_free (OfRegime Operation) r = above_free (value_text (OfRegime Operation)) refl
-value_free (OfRegime Trial) r = above_free (value_text (OfRegime Trial)) refl
-value_free (OfTrain Passenger) r = above_free (value_text (OfTrain Passenger)) refl
-value_free (OfTrain Goods) r = above_free (value_text (OfTrain Goods)) refl
-value_free (OfBrake Passenger) r = above_free (value_text (OfBrake Passenger)) refl
-value_free (OfBrake Goods) r = above_free (value_text (OfBrake Goods)) refl
-value_free (OfLfren Fixed) r = above_free (value_text (OfLfren Fixed)) refl
-value_free (OfLfren TrainLength) r = above_free (value_text (OfLfren TrainLength)) refl
-value_free (OfNumber k n) r = digits_free n (small k n r)
+value_free (OfModel Scmt) r = above_without 10 (value_text (OfModel Scmt)) refl
+value_free (OfModel Etcs) r = above_without 10 (value_text (OfModel Etcs)) refl
+value_free (OfRegime Operation) r = above_without 10 (value_text (OfRegime Operation)) refl
+value_free (OfRegime Trial) r = above_without 10 (value_text (OfRegime Trial)) refl
+value_free (OfTrain Passenger) r = above_without 10 (value_text (OfTrain Passenger)) refl
+value_free (OfTrain Goods) r = above_without 10 (value_text (OfTrain Goods)) refl
+value_free (OfBrake Passenger) r = above_without 10 (value_text (OfBrake Passenger)) refl
+value_free (OfBrake Goods) r = above_without 10 (value_text (OfBrake Goods)) refl
+value_free (OfLfren Fixed) r = above_without 10 (value_text (OfLfren Fixed)) refl
+value_free (OfLfren TrainLength) r = above_without 10 (value_text (OfLfren TrainLength)) refl
+value_free (OfNumber k n) r = digits_high n 10 (omega (arith, small k n r)) (omega arith)
 
-name_free : (k : Key) → Free (name_of k)
+name_free : (k : Key) → Without 10 (name_of k)
 unfolding above
-name_free (Word ModelKey) = above_free (name_of (Word ModelKey)) refl
-name_free (Word RegimeKey) = above_free (name_of (Word RegimeKey)) refl
-name_free (Word TrainKey) = above_free (name_of (Word TrainKey)) refl
-name_free (Word BrakeKey) = above_free (name_of (Word BrakeKey)) refl
-name_free (Word LfrenKey) = above_free (name_of (Word LfrenKey)) refl
-name_free (Number Ep) = above_free (name_of (Number Ep)) refl
-name_free (Number Lambda) = above_free (name_of (Number Lambda)) refl
-name_free (Number Length) = above_free (name_of (Number Length)) refl
-name_free (Number Kr) = above_free (name_of (Number Kr)) refl
-name_free (Number Tw) = above_free (name_of (Number Tw)) refl
-name_free (Number Ti) = above_free (name_of (Number Ti)) refl
-name_free (Number Eps) = above_free (name_of (Number Eps)) refl
+name_free (Word ModelKey) = above_without 10 (name_of (Word ModelKey)) refl
+name_free (Word RegimeKey) = above_without 10 (name_of (Word RegimeKey)) refl
+name_free (Word TrainKey) = above_without 10 (name_of (Word TrainKey)) refl
+name_free (Word BrakeKey) = above_without 10 (name_of (Word BrakeKey)) refl
+name_free (Word LfrenKey) = above_without 10 (name_of (Word LfrenKey)) refl
+name_free (Number Ep) = above_without 10 (name_of (Number Ep)) refl
+name_free (Number Lambda) = above_without 10 (name_of (Number Lambda)) refl
+name_free (Number Length) = above_without 10 (name_of (Number Length)) refl
+name_free (Number Kr) = above_without 10 (name_of (Number Kr)) refl
+name_free (Number Tw) = above_without 10 (name_of (Number Tw)) refl
+name_free (Number Ti) = above_without 10 (name_of (Number Ti)) refl
+name_free (Number Eps) = above_without 10 (name_of (Number Eps)) refl
 
 -- the line without its line feed
 abbrev pub core : Entry → List ℕ
 core e = name_of (key_of e) ++ 61 ∷ value_text e
 
-pub core_free : (e : Entry) → Ranged e → Free (core e)
-core_free e r = free_joined (name_of (key_of e)) (61 ∷ value_text e) (name_free (key_of e)) (free_more 61 (value_text e) (λ same. omega arith) (value_free e r))
+pub core_free : (e : Entry) → Ranged e → Without 10 (core e)
+core_free e r = without_joined 10 (name_of (key_of e)) (61 ∷ value_text e) (name_free (key_of e)) (without_more 10 61 (value_text e) (λ same. omega arith) (value_free e r))
 
 pub line_is : (e : Entry) (rest : List ℕ) → line_text e ++ rest ≡ core e ++ 10 ∷ rest
 line_is e rest =

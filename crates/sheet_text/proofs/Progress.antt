@@ -1,11 +1,12 @@
 -- How far the reading of a sheet has come: some of its entries are read, and the text begins with their lines.
 use Rattle.std.proofs.Common.{◌≡◌, ℕ, ◌+◌, ◌<◌, ◌≤◌, true, List, [], ◌∷◌, ◌++◌, map, length, get_or, take, drop, Ok, sym, refl, ap, ◌∙◌, subst, append_assoc, append-nil, arith}
 use Rattle.std.specs.List.{AllByRecursion}
-use Rattle.std.proofs.lemmas.List.{length-append, take_more, drop_more, take-append-drop, take_all, drop_all}
+use Rattle.std.proofs.lemmas.List.{length-append, map_push, take_more, drop_more, take-append-drop, take_all, drop_all}
 use Rattle.std.proofs.ByRecursion.{All-push}
 use Rattle.sheet.specs.Ranges.{in_ranges}
 use Rattle.sheet.specs.declared.values.Values.{Values}
 use Rattle.sheet_text.proofs.Completeness.{complete, all_ranged}
+use Rattle.sheet_text.proofs.MoreLines.{lines_push}
 use Rattle.sheet_text.specs.Entries.{key_of, keys, line_text, lines, written}
 use Rattle.sheet_text.specs.Reading.{Ranged, LineAnswers, LineFault}
 use Rattle.sheet_text.specs.Sheets.{put, puts, blank, Stops, Fronts}
@@ -25,14 +26,6 @@ pub record Progress (text : List ℕ) (i at : ℕ) (v : Values) : Type 0 where
 pub start : (text : List ℕ) → Progress text 0 0 blank
 start text = record { done = []; in_order = refl; ranged = tt; fine = refl; place = refl; within = omega arith; values = refl }
 
-lines_push : (es : List Entry) (e : Entry) → lines (es ++ e ∷ []) ≡ lines es ++ line_text e
-lines_push [] e = append-nil (line_text e)
-lines_push (x ∷ es) e = ap (λ (t : List ℕ). line_text x ++ t) (lines_push es e) ∙ sym (append_assoc (line_text x) (lines es) (line_text e))
-
-keys_push : (es : List Entry) (e : Entry) → map key_of (es ++ e ∷ []) ≡ map key_of es ++ key_of e ∷ []
-keys_push [] e = refl
-keys_push (x ∷ es) e = ap (λ (t : List Key). key_of x ∷ t) (keys_push es e)
-
 puts_push : (es : List Entry) (e : Entry) (v : Values) → puts (es ++ e ∷ []) v ≡ put e (puts es v)
 puts_push [] e v = refl
 puts_push (x ∷ es) e v = puts_push es e (put x v)
@@ -40,7 +33,7 @@ puts_push (x ∷ es) e v = puts_push es e (put x v)
 pub step : (text : List ℕ) (i at next : ℕ) (v : Values) (d : Key) (e : Entry) → Progress text i at v → i < 12 → LineAnswers (get_or keys i d) text at next (Ok e) → Progress text (i + 1) next (put e v)
 step text i at next v d e p h a = record {
   done = p.done ++ e ∷ [];
-  in_order = keys_push p.done e ∙ (ap (λ (ks : List Key). ks ++ key_of e ∷ []) p.in_order ∙ (ap (λ (j : Key). take i keys ++ j ∷ []) a.0 ∙ sym (take_more keys i d h)));
+  in_order = map_push key_of p.done e ∙ (ap (λ (ks : List Key). ks ++ key_of e ∷ []) p.in_order ∙ (ap (λ (j : Key). take i keys ++ j ∷ []) a.0 ∙ sym (take_more keys i d h)));
   ranged = All-push Ranged p.done e p.ranged a.1;
   fine = p.fine ∙ (ap (λ (t : List ℕ). lines p.done ++ t) a.4 ∙ (sym (append_assoc (lines p.done) (line_text e) (drop next text)) ∙ ap (λ (t : List ℕ). t ++ drop next text) (sym (lines_push p.done e))));
   place = a.2 ∙ (ap (λ (n : ℕ). n + length (line_text e)) p.place ∙ (sym (length-append (lines p.done) (line_text e)) ∙ ap length (sym (lines_push p.done e))));

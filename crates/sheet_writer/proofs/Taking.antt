@@ -1,19 +1,14 @@
 -- The lines of the first entries, and of one more.
-use Rattle.std.proofs.Common.{◌≡◌, ℕ, ◌+◌, ◌<◌, ◌≤◌, List, [], ◌∷◌, ◌++◌, length, get_or, take, drop, sym, refl, ap, ◌∙◌, append_assoc, append-nil, arith}
+use Rattle.std.proofs.Common.{◌≡◌, ℕ, ◌+◌, ◌<◌, ◌≤◌, List, ◌++◌, length, get_or, take, drop, ap, ◌∙◌, arith}
 use Rattle.std.proofs.lemmas.List.{length-append, take_more, take-append-drop}
 use Rattle.sheet_text.specs.Entries.{line_text, lines}
 use Rattle.sheet_text.specs.declared.entry.Entry.{Entry}
+use Rattle.sheet_text.proofs.MoreLines.{lines_append, lines_push}
 use Rattle.sheet_writer.specs.Steps.{Put}
 use Rattle.sheet_writer.proofs.Joining.{kept}
 
-lines_append : (es fs : List Entry) → lines (es ++ fs) ≡ lines es ++ lines fs
-lines_append [] fs = refl
-lines_append (e ∷ es) fs = ap (λ (t : List ℕ). line_text e ++ t) (lines_append es fs) ∙ sym (append_assoc (line_text e) (lines es) (lines fs))
-
 pub lines_more : (es : List Entry) (i : ℕ) (d : Entry) → i < length es → lines (take (i + 1) es) ≡ lines (take i es) ++ line_text (get_or es i d)
-lines_more es i d h =
-    ap lines (take_more es i d h)
-    ∙ (lines_append (take i es) (get_or es i d ∷ []) ∙ ap (λ (t : List ℕ). lines (take i es) ++ t) (append-nil (line_text (get_or es i d))))
+lines_more es i d h = ap lines (take_more es i d h) ∙ lines_push (take i es) (get_or es i d)
 
 -- the first entries have no more text than all
 pub lines_within : (es : List Entry) (i : ℕ) → length (lines (take i es)) ≤ length (lines es)

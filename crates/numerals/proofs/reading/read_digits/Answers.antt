@@ -1,21 +1,16 @@
 -- The value grows by each digit, and never out of 64 bits.
-use Rattle.std.proofs.Common.{◌≡◌, ℕ, ◌+◌, ◌-◌, ◌<◌, List, length, get_or, take, ap, ◌∙◌, subst, arith}
-use Rattle.std.specs.Str.Parse.{digits_value}
-use Rattle.std.specs.Char.{digit_value}
-use Rattle.std.proofs.lemmas.List.{take_all, length-take}
+use Rattle.std.proofs.Common.{ℕ, ◌+◌, ◌<◌, List, length, get_or, take, arith}
+use Rattle.std.proofs.lemmas.List.{length-take}
 use Rattle.std.proofs.lemmas.Int.Digits.{digits_value_more, digits_more}
+use Rattle.std.proofs.lemmas.Str.{digit_value_digit}
 use Rattle.std.proofs.lemmas.Str.Parse.{digits_value_short}
-use Rattle.std.proofs.lemmas.Bool.Decides.{nat_tests}
 use Rattle.numerals.specs.Digits.{IsDigit, AllDigits}
 use Rattle.numerals.proofs.Plainness.{own}
 use Rattle.numerals.proofs.reading.read_digits.Goals as goal
 
-digit : (byte : ℕ) → IsDigit byte → digit_value byte ≡ byte - 48
-digit byte h = grind (arith, nat_tests)
-
 -- one more byte that is a digit
 more : (bytes : List ℕ) (i : ℕ) → i < length bytes → IsDigit (get_or bytes i 0) → AllDigits (take i bytes) → AllDigits (take (i + 1) bytes)
-more bytes i h is all = own.from (take (i + 1) bytes) (digits_more 10 bytes i h (own.to (take i bytes) all) (omega (arith, digit (get_or bytes i 0) is)))
+more bytes i h is all = own.from (take (i + 1) bytes) (digits_more 10 bytes i h (own.to (take i bytes) all) (omega (arith, digit_value_digit (get_or bytes i 0) is)))
 
 pub overflow_mul-number : goal.overflow_mul-number
 overflow_mul-number c =
@@ -33,5 +28,5 @@ loop-byte-preserved c =
     let i = c.loop-byte.byte-index in
     let is = c.in_ok-digit_value.ensures in (
       more bytes i c.loop-byte-test.true is.0 c.loop-byte.invariant.0,
-      omega (arith, is.1, c.loop-byte.invariant.1, digit (get_or bytes i 0) is.0, digits_value_more 10 bytes i c.loop-byte-test.true),
+      omega (arith, is.1, c.loop-byte.invariant.1, digit_value_digit (get_or bytes i 0) is.0, digits_value_more 10 bytes i c.loop-byte-test.true),
     )

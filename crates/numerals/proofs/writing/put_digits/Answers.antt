@@ -1,7 +1,7 @@
 -- Each turn puts one more digit in front of those that stand.
 use Rattle.std.proofs.Common.{◌≡◌, ℕ, ◌+◌, ◌-◌, ◌/◌, ◌%◌, ◌^◌, ◌<◌, ◌≤◌, List, [], ◌∷◌, ◌++◌, length, get_or, take, drop, set, decimal, sym, refl, ap, ◌∙◌, ⊎_elim, append_assoc, arith}
 use Rattle.std.proofs.lemmas.Bool.{cases_lt}
-use Rattle.std.proofs.lemmas.List.{take_all, drop_all, take-append-drop, take_more, drop_more, set_at, same_from_push, length-take-le}
+use Rattle.std.proofs.lemmas.List.{take_more, drop_more, set_at, same_from_push, length-take-le}
 use Rattle.std.proofs.lemmas.Fmt.{decimal_digit, decimal_step}
 use Rattle.numerals.proofs.writing.put_digits.Goals as goal
 

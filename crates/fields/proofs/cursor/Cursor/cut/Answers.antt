@@ -1,10 +1,9 @@
-use Rattle.std.proofs.Common.{◌≡◌, ℕ, ◌+◌, ◌-◌, ◌<◌, min, List, ◌∷◌, ◌++◌, length, get_or, take, drop, Some, None, Err, Option, Result, position, ◌==◌, sym, ap, ◌∙◌, subst, ⊎_elim, arith, length-take, get_or-take}
+use Rattle.std.proofs.Common.{◌≡◌, ℕ, ◌+◌, ◌-◌, ◌<◌, min, List, ◌∷◌, ◌++◌, length, get_or, take, drop, Some, None, Err, Option, Result, position, ◌==◌, sym, ap, ◌∙◌, subst, arith, length-take, get_or-take}
 use Rattle.std.specs.Option.{ok_or}
-use Rattle.std.proofs.lemmas.List.{take-append-drop, drop_more, length-take-le, take_all, take_rest}
+use Rattle.std.proofs.lemmas.List.{take-append-drop, drop_more, length-take-le, take_min, take_rest}
 use Rattle.std.proofs.lemmas.Result.{err_from_is_err_and}
 use Rattle.fields.specs.Lines.{Begins, NoFeed, feed}
 use Rattle.fields.specs.declared.faults.TextFault.{TextFault}
-use Rattle.std.proofs.lemmas.Bool.{cases_lt}
 use Rattle.fields.proofs.Firsts.{first, nowhere}
 use Rattle.fields.proofs.cursor.Cursor.cut.Goals as goal
 
@@ -30,19 +29,12 @@ missing window bytes e k w l f =
     let size = length-take window bytes in
     nowhere feed (take window bytes) e k (omega arith) (get_or-take window bytes k 0 (omega arith) ∙ f)
 
--- as many bytes as the window has, or all
-short : (window : ℕ) (bytes : List ℕ) → take (min window (length bytes)) bytes ≡ take window bytes
-short window bytes = ⊎_elim
-    (λ within. let is : min window (length bytes) ≡ window = omega arith in ap (λ (k : ℕ). take k bytes) is)
-    (λ past. let is : min window (length bytes) ≡ length bytes = omega arith in ap (λ (k : ℕ). take k bytes) is ∙ (take_all (length bytes) bytes (omega arith) ∙ sym (take_all window bytes past)))
-    (cases_lt window (length bytes))
-
 turned : (o : Option ℕ) (e t : TextFault) → Err t ≡ ok_or o e → o ≡ None → t ≡ e
 turned o e t h n = let is : ◌≡◌ {A = Result ℕ TextFault} (Err t) (Err e) = h ∙ ap (λ (p : Option ℕ). ok_or p e) n in cc
 
 -- the bytes that are searched are the window on the text
 searched : (window size at : ℕ) (text rest : List ℕ) → size ≡ min window (length rest) → rest ≡ drop at text → take size rest ≡ take window (drop at text)
-searched window size at text rest is e = ap (λ (k : ℕ). take k rest) is ∙ (short window rest ∙ ap (take window) e)
+searched window size at text rest is e = ap (λ (k : ℕ). take k rest) is ∙ (take_min window rest ∙ ap (take window) e)
 
 pub returns-in_err-feed : goal.returns-in_err-feed
 returns-in_err-feed c =
