@@ -15,7 +15,7 @@ use Rattle.call_text.specs.declared.key.Key.{Key}
 use Rattle.call_text.specs.declared.key.Key.TheVariants.{Call as CallKey}
 use Rattle.call_text.specs.declared.kind.Kind.{Kind}
 use Rattle.call_text.proofs.LineAnswers.{written_is, written_then}
-use Rattle.call_text.proofs.Separators.{split_at}
+use Rattle.fields.proofs.Separators.{split_at}
 use Rattle.call_text.proofs.ValueTexts.{fits, over_limit}
 use Rattle.call_lines.proofs.OneText.{word_free, call_free, call_short, same_field, fields_parted, spaceless, same_front, same_calls, one_call}
 

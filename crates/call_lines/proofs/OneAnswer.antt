@@ -16,7 +16,7 @@ use Rattle.call_text.specs.declared.call_fault.CallFault.TheVariants.{Field, Unk
 use Rattle.call_text.specs.declared.key.Key.{Key}
 use Rattle.call_text.specs.declared.key.Key.TheVariants.{Call as CallKey}
 use Rattle.call_text.specs.declared.kind.Kind.{Kind}
-use Rattle.call_text.proofs.Separators.{split_at}
+use Rattle.fields.proofs.Separators.{split_at}
 use Rattle.call_lines.proofs.OneText.{same_field, spaceless, same_front, same_calls}
 use Rattle.call_lines.proofs.Acceptance.{no_fault, no_first_fault, never_stops_in, never_unknown, taken}
 

@@ -12,7 +12,8 @@ use Rattle.call_text.specs.declared.key.Key.TheVariants.{Call as CallKey, Number
 use Rattle.call_text.specs.declared.kind.Kind.{Kind}
 use Rattle.call_text.specs.declared.kind.Kind.TheVariants.{Slope as SlopeKind, Announce as AnnounceKind, Withdraw as WithdrawKind, Sample as SampleKind, Release as ReleaseKind}
 use Rattle.call_text.proofs.LineAnswers.{written_then}
-use Rattle.call_text.proofs.Separators.{Without, above, above_low, above_without, without_more, without_joined, split_at, split_parted}
+use Rattle.fields.proofs.Separators.{Without, above, above_low, above_without, without_more, without_joined, split_at}
+use Rattle.call_text.proofs.Separators.{split_parted}
 use Rattle.call_text.proofs.ValueTexts.{small, signed_high, value_short, same_value}
 
 -- no line feed

@@ -1,6 +1,5 @@
 -- Texts that are cut at their first space, or with their ends.
-pub use Rattle.fields.proofs.Separators.{Without, without_more, above_low, above_without, without_joined, split_at}
-unfoldable pub use Rattle.fields.proofs.Separators.{above}
+use Rattle.fields.proofs.Separators.{Without}
 use Rattle.std.proofs.Common.{◌≡◌, ℕ, suc, List, [], ◌∷◌, ◌++◌, refl, ap, ◌∙◌, arith}
 use Rattle.call_text.specs.CallTexts.{Parted}
 

@@ -94,7 +94,7 @@ goes_on (x ∷ es) (y ∷ fs) rest ks re rf is e =
     let next = goes_on es fs rest ks re.1 rf.1 more cut.1 in
     record { others = next.others; all = ap (λ (t : List Entry). y ∷ t) next.all ∙ ap (λ (z : Entry). z ∷ (es ++ next.others)) (sym same); text = next.text; their_keys = next.their_keys; ranged = next.ranged }
 
-entries_ranged : (v : Values) → in_ranges v ≡ true → AllByRecursion Ranged (entries_of v)
+pub entries_ranged : (v : Values) → in_ranges v ≡ true → AllByRecursion Ranged (entries_of v)
 entries_ranged v h =
     let a = and_parts (in_range Ep v.ep) _ h in
     let b = and_parts (in_range Lambda v.lambda) _ a.1 in

@@ -1,6 +1,6 @@
 mod Completeness
-mod FeedFree
-mod Acceptance
+pub mod FeedFree
+pub mod Acceptance
 mod LineTexts
 pub mod MoreLines
 mod Progress
