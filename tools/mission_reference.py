@@ -4,7 +4,7 @@
   tools/mission_reference.py answers < TEXT   what it prints on a text
   tools/mission_reference.py cases            writes crates/mission_cases/stdin and crates/mission_cases/stdout
 
-The table of cases is many runs. In stdin a line `next` stands between two texts, in stdout between what is printed on them.
+The table of cases is many runs. In stdin each text ends with a byte 1; in stdout a line `next` stands between what is printed on two of them.
 """
 import os
 import re
@@ -13,6 +13,8 @@ import sys
 from reference import A, KEYS, read_text, sheet, steps, top
 
 NEXT = b"next\n"
+END = b"\x01"
+MAX_BYTES = 65_536
 FURTHEST, FASTEST = 1_000_000_000, 4_000
 SECTIONS, TARGETS = 64, 32
 FIELDS = {
@@ -137,6 +139,7 @@ class Mission:
 
 def answers(text):
     """The lines that the program prints on a text."""
+    text = text[:MAX_BYTES]
     fault = read_text(text)
     rest = b""
     if fault is not None and fault[0] == 5:
@@ -392,26 +395,52 @@ def last_line_unended():
     yield A, [LEVEL, sample(0, 2_601), STANDING, "call=release\x00"]
 
 
+def ends_without_a_feed():
+    yield A, [LEVEL, sample(0, 2_601), "call=release\x00"]
+    yield A, ["\x00"]
+    yield A, [LEVEL, "x\x00"]
+    yield {**A, "edit": ("eps=0\n", "eps=0")}, []
+    yield {**A, "edit": ("kr=100\ntw=20\nti=30\neps=0\n", "kr=100")}, []
+
+
+def filled(behind, *last):
+    """A run whose text has so many bytes behind the most that count, filled with lines that are no calls."""
+    left = MAX_BYTES + behind - len(text_of(A, [LEVEL, *last]))
+    wide, rest = divmod(left, 96)
+    return A, [LEVEL, *["x" * 95] * (wide - 1), "x" * 47, "x" * (rest + 47), *last]
+
+
+def longest_texts():
+    too_fast = sample(0, 2_601)
+    # the last line ends with the last byte that counts, or its feed is one byte behind it
+    yield filled(0, too_fast)
+    yield filled(1, too_fast)
+    # a whole line stands behind the last byte that counts
+    yield filled(len(too_fast) + 1, STANDING, too_fast)
+    # the byte that counts last is the first of a line
+    yield filled(len(too_fast), STANDING, too_fast)
+
+
 GROUPS = [
     worked, no_calls, bad_sheets, reading_faults, refusals, two_refusals, full_lists, several_targets, own_speed, passed_targets, stretches, speeds, releases,
-    cuts, equal_places, numbers_again, weak_questions, phases, sections_in_any_order, sheets, last_line_unended,
+    cuts, equal_places, numbers_again, weak_questions, phases, sections_in_any_order, sheets, last_line_unended, ends_without_a_feed, longest_texts,
 ]
 
 
 def text_of(values, lines):
+    """The text of a run; a last line that ends with a byte 0 has neither that byte nor a line feed."""
     text = "".join(f"{k}={values[k]}\n" for k in KEYS)
     if "edit" in values:
         assert values["edit"][0] in text
         text = text.replace(*values["edit"])
     text += "".join(line + "\n" for line in lines)
-    return text.encode("latin-1")
+    return text.removesuffix("\x00\n").encode("latin-1")
 
 
 def texts():
-    """The texts of all runs; the line at the very end has no line feed."""
+    """The texts of all runs."""
     all_texts = [text_of(*run) for group in GROUPS for run in group()]
-    all_texts[-1] = all_texts[-1].removesuffix(b"\x00\n")
-    assert not any(NEXT in text for text in all_texts) and all(text.endswith(b"\n") for text in all_texts[:-1])
+    assert not any(END in text for text in all_texts)
     return all_texts
 
 
@@ -429,14 +458,15 @@ def cases():
     folder = os.path.join(os.path.dirname(os.path.abspath(__file__)), "..", "crates", "mission_cases")
     os.makedirs(folder, exist_ok=True)
     check_worked()
-    for name, parts in [("stdin", texts()), ("stdout", [lines_of(answers(text)) for text in texts()])]:
-        with open(os.path.join(folder, name), "wb") as file:
-            file.write(NEXT.join(parts))
+    with open(os.path.join(folder, "stdin"), "wb") as file:
+        file.writelines(text + END for text in texts())
+    with open(os.path.join(folder, "stdout"), "wb") as file:
+        file.write(NEXT.join(lines_of(answers(text)) for text in texts()))
 
 
 if __name__ == "__main__":
     if sys.argv[1:] == ["answers"]:
-        sys.stdout.buffer.write(lines_of(answers(sys.stdin.buffer.read(65_536))))
+        sys.stdout.buffer.write(lines_of(answers(sys.stdin.buffer.read())))
     elif sys.argv[1:] == ["cases"]:
         cases()
     else:

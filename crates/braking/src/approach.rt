@@ -1,16 +1,86 @@
-ghost use Rattle.std.specs.Prelude.{◌<◌, ◌≤◌, pos, negsuc, ◌≤ℤ◌};
+ghost use Rattle.std.specs.Prelude.{◌≡◌, ◌<◌, ◌≤◌, ◌≤ℤ◌};
+ghost use Rattle.braking.specs.Answers.{Asking, question_of};
+ghost use Rattle.braking.specs.Meaning.{Meaning};
+ghost use Rattle.units.specs.declared.limits.TheConstants.{FASTEST, STEEPEST_FALL, STEEPEST_RISE};
 
-use units::{Grade, Speed};
+use crate::question::Question;
+use crate::refusal::Refusal;
+use crate::top_speed::TopSpeed;
+use std::marker::Model;
+use units::{Grade, STEEPEST_FALL, STEEPEST_RISE, Speed};
 
-// A question that can be answered: the speeds and the grade are within limits, and the train is faster than the target allows.
+// A question that can be answered: its speeds and its grade are within limits, and its target binds the train. Only `Question::ask` makes one.
 #[derive(Clone, Copy, Debug, PartialEq, Eq)]
 pub struct Approach {
-    pub speed: Speed,
-    pub target: Speed,
-    pub grade: Grade,
-    // No speed type with this bound, here and where it stands else: it would be taken apart wherever it meets a plain `Speed`.
-    ghost slow: { speed.tenths ≤ 4000 },
-    ghost binding: { target.tenths < speed.tenths },
-    ghost not_below: { negsuc 34 ≤ℤ grade.thousandths },
-    ghost not_above: { grade.thousandths ≤ℤ pos 35 },
+    speed: Speed,
+    target: Speed,
+    grade: Grade,
+}
+
+impl Model for Approach {
+    ghost use Rattle.braking.specs.Meaning.{Question};
+
+    ghost Value = { Question };
+
+    ghost use Rattle.braking.specs.Approaches.{IsAnswerable};
+
+    ghost view = { λ a. record { speed = a.speed.tenths; target = a.target.tenths; grade = a.grade.thousandths } };
+
+    ghost invariant = { IsAnswerable };
+
+    ghost inverse = { λ q. record { speed = record { tenths = q.speed }; target = record { tenths = q.target }; grade = record { thousandths = q.grade } } };
+}
+
+impl Approach {
+    // The train's speed.
+    pub fn speed(self) -> Speed
+        ensures value { result.tenths ≡ self.speed }
+        ensures slow { self.speed ≤ FASTEST.tenths }
+    {
+        self.speed
+    }
+
+    // The speed that the train is to come down to.
+    pub fn target(self) -> Speed
+        ensures value { result.tenths ≡ self.target }
+        ensures binding { self.target < self.speed }
+    {
+        self.target
+    }
+
+    // The least grade between train and target.
+    pub fn grade(self) -> Grade
+        ensures value { result.thousandths ≡ self.grade }
+        ensures not_below { STEEPEST_FALL.thousandths ≤ℤ self.grade }
+        ensures not_above { self.grade ≤ℤ STEEPEST_RISE.thousandths }
+    {
+        self.grade
+    }
+}
+
+impl Question {
+    // The question as one that any model with this top speed answers, or the first reason why each of them turns it down.
+    pub fn ask(self, top: TopSpeed) -> Result<Approach, Refusal>
+        ensures { (m : Meaning) → m.top ≡ top.speed.tenths → Asking m (question_of self) result }
+    {
+        let Question {
+            speed,
+            target,
+            grade,
+        } = self;
+        if speed > top.speed || target > top.speed {
+            return Err(Refusal::TooFast);
+        }
+        if !(STEEPEST_FALL..=STEEPEST_RISE).contains(&grade) {
+            return Err(Refusal::GradeOutOfLimits);
+        }
+        if speed <= target {
+            return Err(Refusal::NotBinding);
+        }
+        Ok(Approach {
+            speed,
+            target,
+            grade,
+        })
+    }
 }

@@ -3,7 +3,7 @@ ghost use Rattle.std.specs.Prelude.{◌≤◌, Some};
 use std::fmt;
 use units::Distance;
 
-// The three braking distances; the type keeps them in order.
+// The three braking distances, in order by their type: a train runs on as far as `control` once the brake is called for; `warning` leads that by the warning time, and `nominal` leads `warning` by the hysteresis time.
 #[derive(Clone, Copy, Debug, PartialEq, Eq)]
 pub struct Distances {
     pub control: Distance,
@@ -13,7 +13,7 @@ pub struct Distances {
     ghost nominal_last: { warning.millimetres ≤ nominal.millimetres },
 }
 
-// The numbers are taken out where they are printed: a `Display` of a distance would name no unit.
+// The three distances print by their names, each as its number of mm.
 impl fmt::Display for Distances {
     ghost use Rattle.braking.specs.Printed.{distances_text};
 

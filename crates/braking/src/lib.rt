@@ -1,7 +1,6 @@
 #![tactic(auto)]
 
 mod approach;
-mod asking;
 mod braking_model;
 mod distances;
 mod printed;

@@ -4,7 +4,7 @@ use crate::distances::Distances;
 use crate::refusal::Refusal;
 use std::fmt;
 
-// What a model answers to a question, to be printed.
+// What a model answers to a question, to be printed: the three distances, `weak`, or the refusal. A struct around it, since `Display` is foreign to a `Result`.
 #[derive(Clone, Copy, Debug, PartialEq, Eq)]
 pub struct Printed {
     pub answer: Result<Option<Distances>, Refusal>,

@@ -8,16 +8,16 @@ use std::fmt;
 pub enum Refusal {
     // a speed is above the model's top speed
     TooFast = 8,
-    // the grade is not from -35 to 35
+    // the grade is not from the steepest fall to the steepest rise, -35 to 35 thousandths
     GradeOutOfLimits = 9,
-    // the speed is not above the target speed
+    // the target does not bind: the speed is not above the target speed
     NotBinding = 13,
 }
 
 impl Refusal {
     ghost use Rattle.braking.specs.Refusals.{number};
 
-    // The number that stands for the refusal: a cast of this type's own numbers, since a trait for all such types would want the same line in each impl.
+    // The number by which the refusal is known outside, listed in docs/REFUSALS.md.
     pub fn number(self) -> u8
         ensures { result ≡ number self }
     {
@@ -25,7 +25,7 @@ impl Refusal {
     }
 }
 
-// A refusal prints as the answer that it is: one impl for one type: `Display` is a foreign trait, so none may serve all types at once.
+// A refusal prints as the answer that it is: `answer=` and its number.
 impl fmt::Display for Refusal {
     ghost use Rattle.braking.specs.Refusals.{refusal_text};
 

@@ -1,11 +1,11 @@
 ghost use Rattle.std.specs.Prelude.{◌≤◌};
+ghost use Rattle.units.specs.declared.limits.TheConstants.{FASTEST};
 
 use units::Speed;
 
-// The greatest speed that a braking model answers for, never above 400 km/h.
+// The greatest speed that a braking model answers for, at most 400 km/h.
 #[derive(Clone, Copy, Debug, PartialEq, Eq)]
 pub struct TopSpeed {
     pub speed: Speed,
-    // as in `Approach`
-    ghost bounded: { speed.tenths ≤ 4000 },
+    ghost bounded: { speed.tenths ≤ FASTEST.tenths },
 }

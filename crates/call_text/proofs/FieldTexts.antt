@@ -5,14 +5,14 @@ use lib.Seq.{take-append-add}
 use Rattle.std.specs.List.{between}
 use Rattle.std.proofs.lemmas.List.{drop-drop, get_or-take, get_or-drop, length-append, take-append-drop}
 use Rattle.std.proofs.lemmas.Bool.{cases_lt}
-use Rattle.fields.specs.Fields.{Fits, span_of, value_of, Answers as FieldsAnswers}
-use Rattle.fields.specs.Keys.{Keyed}
-use Rattle.fields.specs.declared.due.Due.{Due}
+use Rattle.fields.specs.Fields.{Fits, span_of, value_of, PartAnswers}
+use Rattle.fields.specs.Keys.{HasKey}
+use Rattle.fields.specs.declared.form.Form.{Form}
 use Rattle.fields.specs.declared.field.Field.{Field}
 use Rattle.fields.specs.declared.span.Span.{Span}
 use Rattle.fields.specs.declared.faults.ValueFault.{ValueFault}
 use Rattle.fields.specs.declared.faults.ValueFault.TheVariants.{Text, OtherKey, BadValue}
-use Rattle.call_text.specs.CallTexts.{lead_of, due_of, Parted}
+use Rattle.call_text.specs.CallTexts.{lead_of, form_of, IsParted}
 use Rattle.call_text.specs.LineFields.{EndsBehind, Holds, HasOtherKey, SpanAnswers}
 use Rattle.call_text.specs.declared.key.AmountKey.TheVariants.{Place, Point, Distance, Speed}
 use Rattle.call_text.specs.declared.key.Key.{Key}
@@ -61,7 +61,7 @@ inside k behind j low high e =
     parts (Amount Distance) = refl
     parts (Amount Speed) = refl
 
-parted_space : (bytes : List ℕ) → 0 < length bytes → Parted bytes → get_or bytes 0 0 ≡ 32
+parted_space : (bytes : List ℕ) → 0 < length bytes → IsParted bytes → get_or bytes 0 0 ≡ 32
 parted_space [] some p = absurd (omega arith)
 parted_space (b ∷ bytes) some p = p
 
@@ -71,7 +71,7 @@ module _ (k : Key) (line : List ℕ) (at end : ℕ) (e : EndsBehind line at end)
   BetweenAnswers (Ok f) = (s : Span) → s ≡ span_of f → SpanAnswers k line at end (Ok s)
   BetweenAnswers (Err f) = SpanAnswers k line at end (Err f)
 
-  pub holds : (value : List ℕ) → Keyed (lead_of k) (between at end line) value → Holds k line at value end
+  pub holds : (value : List ℕ) → HasKey (lead_of k) (between at end line) value → Holds k line at value end
   holds value keyed =
       let n : ℕ = length (lead_of k) + 1 in
       let ends : end ≡ at + n + length value = omega (arith, ap length keyed, length-append (lead_of k) (61 ∷ value), length-take (end - at) (drop at line), length-drop at line, e.within) in
@@ -93,7 +93,7 @@ module _ (k : Key) (line : List ℕ) (at end : ℕ) (e : EndsBehind line at end)
         within = e.within;
       }
 
-  pub other : ((value : List ℕ) → Keyed (lead_of k) (between at end line) value → ⊥) → HasOtherKey k line at
+  pub other : ((value : List ℕ) → HasKey (lead_of k) (between at end line) value → ⊥) → HasOtherKey k line at
   other none behind is = ⊎_elim short long (cases_lt (end - at) (length (lead_of k) + 1))
     where
       whole : length line - at ≡ length (lead_of k) + 1 + length behind
@@ -116,11 +116,11 @@ module _ (k : Key) (line : List ℕ) (at end : ℕ) (e : EndsBehind line at end)
           let size : end - at ≡ length (lead_of k) + suc m = omega arith in
           none (take m behind) (ap (take (end - at)) is ∙ (ap (λ (i : ℕ). take i (lead_of k ++ 61 ∷ behind)) size ∙ take-append-add (lead_of k) (61 ∷ behind) (suc m)))
 
-  told : (due : Due) (r : Result Field ValueFault) → due ≡ due_of k → FieldsAnswers (between at end line) at (lead_of k) due r → BetweenAnswers r
-  told due (Ok f) is a = λ s e. subst (λ (t : Span). SpanAnswers k line at end (Ok t)) (sym e) (holds (value_of f) a.0, a.1, subst (λ (d : Due). Fits d (value_of f)) is a.3)
-  told due (Err (Text t)) is a = a
-  told due (Err (OtherKey b)) is a = (a.0, other a.1)
-  told due (Err (BadValue b)) is a = (a.0, (a.1.0, end, holds a.1.0 a.1.1, subst (λ (d : Due). Fits d a.1.0 → ⊥) is a.1.2))
+  told : (form : Form) (r : Result Field ValueFault) → form ≡ form_of k → PartAnswers (between at end line) at (lead_of k) form r → BetweenAnswers r
+  told form (Ok f) is a = λ s e. subst (λ (t : Span). SpanAnswers k line at end (Ok t)) (sym e) (holds (value_of f) a.0, a.1, subst (λ (d : Form). Fits d (value_of f)) is a.3)
+  told form (Err (Text t)) is a = a
+  told form (Err (OtherKey b)) is a = (a.0, other a.1)
+  told form (Err (BadValue b)) is a = (a.0, (a.1.0, end, holds a.1.0 a.1.1, subst (λ (d : Form). Fits d a.1.0 → ⊥) is a.1.2))
 
-  pub spanned : (lead : List ℕ) (due : Due) (r : Result Field ValueFault) → lead ≡ lead_of k → due ≡ due_of k → FieldsAnswers (between at end line) at lead due r → BetweenAnswers r
-  spanned lead due r named is a = told due r is (subst (λ (l : List ℕ). FieldsAnswers (between at end line) at l due r) named a)
+  pub spanned : (lead : List ℕ) (form : Form) (r : Result Field ValueFault) → lead ≡ lead_of k → form ≡ form_of k → PartAnswers (between at end line) at lead form r → BetweenAnswers r
+  spanned lead form r named is a = told form r is (subst (λ (l : List ℕ). PartAnswers (between at end line) at l form r) named a)

@@ -1,5 +1,8 @@
-pub mod Separators
-pub mod FieldTexts
-pub mod ValueTexts
-pub mod LineAnswers
+mod Separators
+mod FieldTexts
+mod ValueTexts
+mod LineAnswers
 mod Moves
+mod OneText
+mod Acceptance
+mod OneAnswer

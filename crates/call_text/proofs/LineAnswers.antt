@@ -8,7 +8,7 @@ use Rattle.fields.specs.declared.faults.ValueFault.TheVariants.{Text, OtherKey, 
 use Rattle.fields.specs.declared.faults.TextFault.{TextFault}
 use Rattle.call_text.specs.CallTexts.{lead_of, word_of, keys_of, kind_of, values_of, field, fields, call_before, written_call}
 use Rattle.call_text.specs.LineFields.{Stops, StopsIn, LineAnswers}
-use Rattle.call_text.specs.Lines.{Answers}
+use Rattle.call_text.specs.Lines.{TextAnswers}
 use Rattle.call_text.specs.declared.call_fault.CallFault.{CallFault}
 use Rattle.call_text.specs.declared.call_fault.CallFault.TheVariants.{Field, UnknownCall, NumberTooLarge, LeftOver}
 use Rattle.call_text.specs.declared.key.Key.{Key}
@@ -51,7 +51,7 @@ module _ (text line : List ℕ) (end : ℕ) (size : length line ≡ end) (begins
       ap (drop (end + 1)) (begins.behind.1 ∙ sym (append_assoc line (10 ∷ []) begins.behind.0))
       ∙ drop_at (line ++ 10 ∷ []) begins.behind.0 (end + 1) (omega (arith, length-append line (10 ∷ [])))
 
-  pub answered : (r : Result Call CallFault) → LineAnswers line r → Answers text r (end + 1)
+  pub answered : (r : Result Call CallFault) → LineAnswers line r → TextAnswers text r (end + 1)
   answered (Ok c) a = record {
     writable = a.0;
     text_is =

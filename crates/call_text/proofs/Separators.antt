@@ -1,10 +1,10 @@
 -- Texts that are cut at their first space, or with their ends.
 use Rattle.fields.proofs.Separators.{Without}
 use Rattle.std.proofs.Common.{◌≡◌, ℕ, suc, List, [], ◌∷◌, ◌++◌, refl, ap, ◌∙◌, arith}
-use Rattle.call_text.specs.CallTexts.{Parted}
+use Rattle.call_text.specs.CallTexts.{IsParted}
 
 -- where two values end at a space or with their texts, they are the same and so is what stands behind them
-pub split_parted : (a b x y : List ℕ) → Without 32 a → Without 32 b → Parted x → Parted y → a ++ x ≡ b ++ y → (a ≡ b) × (x ≡ y)
+pub split_parted : (a b x y : List ℕ) → Without 32 a → Without 32 b → IsParted x → IsParted y → a ++ x ≡ b ++ y → (a ≡ b) × (x ≡ y)
 split_parted [] [] x y fa fb px py e = (refl, e)
 split_parted [] (d ∷ b) [] y fa fb px py e = let z : ◌≡◌ {A = ℕ} 0 1 = cc in absurd (omega arith)
 split_parted [] (d ∷ b) (u ∷ x) y fa fb px py e = let z : d ≡ u = cc in absurd (fb 0 (omega arith) (z ∙ px))

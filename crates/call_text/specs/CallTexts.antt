@@ -4,8 +4,8 @@ use Rattle.calls.specs.declared.call.Call.{Call}
 use Rattle.calls.specs.declared.call.Call.TheVariants.{Slope, Announce, Withdraw, Sample, Release}
 use Rattle.fields.specs.Keys.{equals}
 use Rattle.fields.specs.Lines.{feed}
-use Rattle.fields.specs.declared.due.Due.{Due}
-use Rattle.fields.specs.declared.due.Due.TheVariants.{Word as WordForm, Number as NumberForm, Signed as SignedDue}
+use Rattle.fields.specs.declared.form.Form.{Form}
+use Rattle.fields.specs.declared.form.Form.TheVariants.{Word as WordForm, Number as NumberForm, Signed as SignedForm}
 use Rattle.std.specs.Fmt.{signed_decimal}
 use Rattle.call_text.specs.declared.key.AmountKey.TheVariants.{Place, Point, Distance, Speed}
 use Rattle.call_text.specs.declared.key.Key.{Key}
@@ -28,11 +28,11 @@ lead_of (Amount Distance) = codes " distance"
 lead_of (Amount Speed) = codes " speed"
 
 -- The form of a key's value: a word, or at most ten digits, of a grade with a minus in front of them or not.
-abbrev pub due_of : Key → Due
-due_of CallKey = WordForm
-due_of Number = NumberForm 10
-due_of Grade = SignedDue 10
-due_of (Amount k) = NumberForm 10
+abbrev pub form_of : Key → Form
+form_of CallKey = WordForm
+form_of Number = NumberForm 10
+form_of Grade = SignedForm 10
+form_of (Amount k) = NumberForm 10
 
 -- The word of each call.
 abbrev pub word_of : Kind → List ℕ
@@ -84,30 +84,30 @@ unfoldable pub written_call : Call → List ℕ
 written_call c = call_before c (feed ∷ [])
 
 -- A key may have this value: the number of a target up to 65,535, all others in at most ten digits, and only a grade below zero.
-abbrev pub Good : Key → ℤ → Type 0
-Good CallKey z = ⊥
-Good Number (pos n) = n ≤ 65535
-Good Number (negsuc n) = ⊥
-Good Grade (pos n) = n < 10 ^ 10
-Good Grade (negsuc n) = suc n < 10 ^ 10
-Good (Amount k) (pos n) = n < 10 ^ 10
-Good (Amount k) (negsuc n) = ⊥
+abbrev pub IsValid : Key → ℤ → Type 0
+IsValid CallKey z = ⊥
+IsValid Number (pos n) = n ≤ 65535
+IsValid Number (negsuc n) = ⊥
+IsValid Grade (pos n) = n < 10 ^ 10
+IsValid Grade (negsuc n) = suc n < 10 ^ 10
+IsValid (Amount k) (pos n) = n < 10 ^ 10
+IsValid (Amount k) (negsuc n) = ⊥
 
-abbrev pub AllGood : List Key → List ℤ → Type 0
-AllGood [] [] = Unit {0}
-AllGood [] (z ∷ zs) = ⊥
-AllGood (k ∷ ks) [] = ⊥
-AllGood (k ∷ ks) (z ∷ zs) = Good k z × AllGood ks zs
+abbrev pub AllValid : List Key → List ℤ → Type 0
+AllValid [] [] = Unit {0}
+AllValid [] (z ∷ zs) = ⊥
+AllValid (k ∷ ks) [] = ⊥
+AllValid (k ∷ ks) (z ∷ zs) = IsValid k z × AllValid ks zs
 
 -- A call that has a text: its numbers have at most ten digits, and a target's at most 65,535.
-abbrev pub Writable : Call → Type 0
-Writable c = AllGood (keys_of (kind_of c)) (values_of c)
+abbrev pub IsWritable : Call → Type 0
+IsWritable c = AllValid (keys_of (kind_of c)) (values_of c)
 
 -- No text begins with the texts of two calls.
 unfoldable pub OneCall : Type 0
-OneCall = (c d : Call) (x y : List ℕ) → Writable c → Writable d → written_call c ++ x ≡ written_call d ++ y → c ≡ d
+OneCall = (c d : Call) (x y : List ℕ) → IsWritable c → IsWritable d → written_call c ++ x ≡ written_call d ++ y → c ≡ d
 
 -- What stands behind a field: nothing, or a space in front of more.
-abbrev pub Parted : List ℕ → Type 0
-Parted [] = Unit {0}
-Parted (b ∷ bytes) = b ≡ space
+abbrev pub IsParted : List ℕ → Type 0
+IsParted [] = Unit {0}
+IsParted (b ∷ bytes) = b ≡ space

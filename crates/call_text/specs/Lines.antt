@@ -1,10 +1,10 @@
 -- What the first line of a text answers, and where the next line begins.
 use Rattle.std.specs.Prelude.{◌≡◌, ℕ, ◌+◌, List, ◌++◌, length, drop, Ok, Err, Result}
 use Rattle.calls.specs.declared.call.Call.{Call}
-use Rattle.fields.specs.Lines.{Begins, NoFeed}
+use Rattle.fields.specs.Lines.{Begins, HasNoFeed}
 use Rattle.fields.specs.declared.faults.ValueFault.TheVariants.{Text, OtherKey, BadValue}
 use Rattle.fields.specs.declared.faults.TextFault.TheVariants.{NoLineFeed}
-use Rattle.call_text.specs.CallTexts.{Writable, written_call}
+use Rattle.call_text.specs.CallTexts.{IsWritable, written_call}
 use Rattle.call_text.specs.LineFields.{LineFault}
 use Rattle.call_text.specs.declared.call_fault.CallFault.{CallFault}
 use Rattle.call_text.specs.declared.call_fault.CallFault.TheVariants.{Field, UnknownCall, NumberTooLarge, LeftOver}
@@ -15,7 +15,7 @@ line_window = 96
 
 -- The text begins with the text of a call, and the next line behind it.
 pub record IsCall (text : List ℕ) (c : Call) (next : ℕ) : Type 0 where
-  pub writable : Writable c
+  pub writable : IsWritable c
   pub text_is : text ≡ written_call c ++ drop next text
   pub ends : next ≡ length (written_call c)
 
@@ -28,18 +28,18 @@ pub record IsFaulty (text : List ℕ) (f : CallFault) (next : ℕ) : Type 0 wher
 
 -- No line feed is in reach, and the text is at its end.
 pub record IsEndless (text : List ℕ) (next : ℕ) : Type 0 where
-  pub none : NoFeed line_window text
+  pub none : HasNoFeed line_window text
   pub ends : next ≡ length text
 
-abbrev pub Answers : (text : List ℕ) → Result Call CallFault → (next : ℕ) → Type 0
-Answers text (Ok c) next = IsCall text c next
-Answers text (Err (Field (Text t))) next = (t ≡ NoLineFeed 0) × IsEndless text next
-Answers text (Err (Field (OtherKey b))) next = IsFaulty text (Field (OtherKey b)) next
-Answers text (Err (Field (BadValue b))) next = IsFaulty text (Field (BadValue b)) next
-Answers text (Err UnknownCall) next = IsFaulty text UnknownCall next
-Answers text (Err (NumberTooLarge b)) next = IsFaulty text (NumberTooLarge b) next
-Answers text (Err (LeftOver b)) next = IsFaulty text (LeftOver b) next
+abbrev pub TextAnswers : (text : List ℕ) → Result Call CallFault → (next : ℕ) → Type 0
+TextAnswers text (Ok c) next = IsCall text c next
+TextAnswers text (Err (Field (Text t))) next = (t ≡ NoLineFeed 0) × IsEndless text next
+TextAnswers text (Err (Field (OtherKey b))) next = IsFaulty text (Field (OtherKey b)) next
+TextAnswers text (Err (Field (BadValue b))) next = IsFaulty text (Field (BadValue b)) next
+TextAnswers text (Err UnknownCall) next = IsFaulty text UnknownCall next
+TextAnswers text (Err (NumberTooLarge b)) next = IsFaulty text (NumberTooLarge b) next
+TextAnswers text (Err (LeftOver b)) next = IsFaulty text (LeftOver b) next
 
 -- A text has one answer at most.
 unfoldable pub OneAnswer : List ℕ → Type 0
-OneAnswer text = (r s : Result Call CallFault) (m n : ℕ) → Answers text r m → Answers text s n → (r ≡ s) × (m ≡ n)
+OneAnswer text = (r s : Result Call CallFault) (m n : ℕ) → TextAnswers text r m → TextAnswers text s n → (r ≡ s) × (m ≡ n)

@@ -15,7 +15,7 @@ pub enum CallFault {
     LeftOver(usize),
 }
 
-// One line for one pair of types: a trait for all such pairs would want the same line in each impl.
+// The fault of the field reader, kept whole.
 impl From<ValueFault> for CallFault {
     ghost from_gives = { λ e r. r ≡ OfField e };
 

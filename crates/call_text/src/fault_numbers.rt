@@ -9,7 +9,7 @@ use std::error::Error;
 use std::fmt;
 
 impl CallFault {
-    // The number that stands for the fault: a match, since a kind that holds a byte has no number of its own to cast.
+    // The number by which the fault is reported.
     pub fn number(self) -> u8
         ensures { result ≡ number self }
     {
@@ -21,8 +21,7 @@ impl CallFault {
         }
     }
 
-    // The byte of the line that the fault is at: the line's first, 0, where a key or the call is another.
-    // A match: a fault holds the fault below it whole, with its byte, and a byte beside the kind would be a second one.
+    // The byte of the line that the fault is at, counted from 0; the line's first where a key or the call is another.
     pub fn byte(self) -> usize
         ensures { result ≡ fault_byte self }
     {
@@ -34,7 +33,7 @@ impl CallFault {
         }
     }
 
-    // The reader that the fault belongs to: each kind of fault has its own table of layers.
+    // The reader that the fault belongs to.
     pub fn layer(self) -> Layer
         ensures { result ≡ layer_of self }
     {
@@ -46,7 +45,7 @@ impl CallFault {
     }
 }
 
-// As for a sheet's faults: no one impl of a foreign trait may serve all kinds of fault.
+// A fault prints as its number, byte and layer.
 impl fmt::Display for CallFault {
     ghost output = { λ fault. Some (answer_text (number fault) (fault_byte fault) (layer_of fault)) };
 

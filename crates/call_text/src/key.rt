@@ -1,4 +1,4 @@
-// The keys whose values are numbers that are never below zero.
+// The keys whose values are never below zero: places and distances in mm, speeds in tenths of km/h.
 #[derive(Clone, Copy, Debug, PartialEq, Eq)]
 pub enum AmountKey {
     Place,

@@ -1,8 +1,8 @@
 #![tactic(auto)]
 
 mod call_fault;
+mod call_fields;
 mod call_line;
-mod due_fields;
 mod fault_numbers;
 mod field_values;
 mod key;
@@ -15,4 +15,4 @@ pub use call_fault::CallFault;
 pub use call_line::CallLine;
 pub use key::{AmountKey, Key};
 pub use kind::Kind;
-pub use reading::read_line;
+pub use reading::read_call;

@@ -10,7 +10,7 @@ pub(crate) struct Fields<'a> {
     pub(crate) rest: Cursor<'a>,
 }
 
-// Each function that reads on says that the text stays: no type says which part of a `&mut` is left alone.
+// The clause `same`: reading on moves the cursor, and the line stays.
 impl<'a> Fields<'a> {
     // The value of the next field, which has this key.
     pub(crate) fn value(&mut self, key: Key) -> Result<Span<'a>, ValueFault>
@@ -18,7 +18,7 @@ impl<'a> Fields<'a> {
         ensures same { self.new.rest.text ≡ self.old.rest.text }
     {
         let end = self.end();
-        let field = self.rest.field_between(end, key.lead(), key.due())?;
+        let field = self.rest.field_between(end, key.lead(), key.form())?;
         self.rest.at = end;
         Ok(field.span())
     }

@@ -1,5 +1,8 @@
+ghost use Rattle.std.specs.Prelude.{◌≡◌, ℕ, ◌<◌, ◌≤◌, List, ◌++◌, length, Ok as TheCall};
+ghost use Rattle.calls.specs.declared.call.Call.{Call as SomeCall};
+ghost use Rattle.call_text.specs.CallTexts.{OneCall, IsWritable, written_call};
 ghost use Rattle.call_text.specs.LineFields.{LineAnswers};
-ghost use Rattle.call_text.specs.Lines.{Answers};
+ghost use Rattle.call_text.specs.Lines.{TextAnswers, OneAnswer};
 
 use crate::call_fault::CallFault;
 use crate::call_line::CallLine;
@@ -28,8 +31,8 @@ fn call_in(line: &[u8]) -> Result<Call, CallFault>
 }
 
 // The first line of a text as a call, or its first fault, and where the next line begins.
-pub fn read_line(text: &[u8]) -> CallLine
-    ensures { Answers text.now result.call result.next }
+fn read_line(text: &[u8]) -> CallLine
+    ensures { TextAnswers text.now result.call result.next }
 {
     match (Cursor { text, at: 0 }).cut(LINE_WINDOW) {
         Ok(line) => CallLine {
@@ -41,4 +44,17 @@ pub fn read_line(text: &[u8]) -> CallLine
             next: text.len(),
         },
     }
+}
+
+// The first line of a text as a call, or its first fault, and where the next line begins. A line is taken exactly where it is the text of a call.
+// The first clause is what `read_line` promises; the others follow from that clause alone.
+pub fn read_call(text: &[u8]) -> CallLine
+    ensures answers { TextAnswers text.now result.call result.next }
+    ensures exactly { (c : SomeCall) (rest : List ℕ) → IsWritable c → text.now ≡ written_call c ++ rest → result.call ≡ TheCall c }
+    ensures only { OneCall }
+    ensures once { OneAnswer text.now }
+    ensures within { result.next ≤ length text.now }
+    ensures goes_on { 0 < length text.now → 0 < result.next }
+{
+    read_line(text)
 }

@@ -1,14 +1,14 @@
 ghost use Rattle.std.specs.Prelude.{◌≡◌};
-ghost use Rattle.call_text.specs.CallTexts.{lead_of, due_of, word_of};
+ghost use Rattle.call_text.specs.CallTexts.{lead_of, form_of, word_of};
 ghost use Rattle.call_text.specs.Kinds.{kinds, kinds_complete};
 
 use crate::key::{AmountKey, Key};
 use crate::kind::Kind;
-use fields::Due;
+use fields::Form;
 use sheet_text::Word;
 
 // How many digits a number may have.
-pub(crate) const MOST_DIGITS: usize = 10;
+pub(crate) const MAX_DIGITS: usize = 10;
 
 impl Key {
     // What stands in front of the key's equals sign: the key, and for all but the first the space that parts it from the field before.
@@ -27,19 +27,19 @@ impl Key {
     }
 
     // The form of the key's value.
-    pub(crate) fn due(self) -> Due
-        ensures { result ≡ due_of self }
+    pub(crate) fn form(self) -> Form
+        ensures { result ≡ form_of self }
     {
         match self {
-            Key::Call => Due::Word,
-            Key::Number => Due::Number(MOST_DIGITS),
-            Key::Grade => Due::Signed(MOST_DIGITS),
-            Key::Amount(_) => Due::Number(MOST_DIGITS),
+            Key::Call => Form::Word,
+            Key::Number => Form::Number(MAX_DIGITS),
+            Key::Grade => Form::Signed(MAX_DIGITS),
+            Key::Amount(_) => Form::Number(MAX_DIGITS),
         }
     }
 }
 
-// What differs between the types of words stands in their impls; reading one is one function for all.
+// The word of each call; `read_word` reads them.
 impl Word for Kind {
     ghost text = { word_of };
 

@@ -1,8 +1,8 @@
 #![tactic(auto)]
 
 // Reads the first line of each of many texts, each ended by a byte 1, as a call, and prints what is answered to it and where the next line begins.
-use call_lines::read_call;
-use input::{MANY_TEXTS, TEXT_END, ended_texts, read_most};
+use call_text::read_call;
+use input::{MANY_TEXTS, TEXT_END, ended_texts, read_at_most};
 use std::io;
 
 fn show(rt: &impl Print, text: &[u8]) -> io::Result<()> {
@@ -14,9 +14,8 @@ fn show(rt: &impl Print, text: &[u8]) -> io::Result<()> {
     println!(rt; " next={}", line.next)
 }
 
-// As in the program for the texts of sheets, but for what is shown: a function of both would be passed the handle, the input and what shows a text, and be no shorter than these lines.
 fn main(rt: HostRuntime) -> io::Result<()> {
-    let texts = read_most(rt.alloc(), rt.stdin(), MANY_TEXTS)?;
+    let texts = read_at_most(rt.alloc(), rt.stdin(), MANY_TEXTS)?;
     for text in ended_texts(rt.alloc(), texts.as_slice(), TEXT_END)?.as_slice() {
         show(&rt, text)?;
     }

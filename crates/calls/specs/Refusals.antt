@@ -1,12 +1,12 @@
 -- The number of each refusal of a call.
 use Rattle.std.specs.Prelude.{ℕ}
 use Rattle.calls.specs.declared.refusal.Refusal.{Refusal}
-use Rattle.calls.specs.declared.refusal.Refusal.TheVariants.{PlaceOutOfLimits, TooFast, GradeOutOfLimits, Taken, Full, NotReleasable}
+use Rattle.calls.specs.declared.refusal.Refusal.TheVariants.{PlaceOutOfLimits, TooFast, GradeOutOfLimits, Conflict, Full, NotReleasable}
 
 abbrev pub number : Refusal → ℕ
 number PlaceOutOfLimits = 7
 number TooFast = 8
 number GradeOutOfLimits = 9
-number Taken = 10
+number Conflict = 10
 number Full = 11
 number NotReleasable = 12

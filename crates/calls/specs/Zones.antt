@@ -1,4 +1,4 @@
--- The number of each zone, and the larger of two.
+-- The number of each zone, and the greater of two.
 use Rattle.std.specs.Prelude.{cond, ℕ, nat_lt}
 use Rattle.calls.specs.declared.zone.Zone.{Zone}
 use Rattle.calls.specs.declared.zone.Zone.TheVariants.{Clear, Nominal, Warning, Control}
@@ -9,6 +9,6 @@ zone_number Nominal = 1
 zone_number Warning = 2
 zone_number Control = 3
 
--- The one with the larger number.
-abbrev pub larger_zone : Zone → Zone → Zone
-larger_zone z w = cond (nat_lt (zone_number z) (zone_number w)) w z
+-- The one with the greater number.
+abbrev pub max_zone : Zone → Zone → Zone
+max_zone z w = cond (nat_lt (zone_number z) (zone_number w)) w z

@@ -31,7 +31,7 @@ pub enum Call {
     Release,
 }
 
-// A call prints as its word and its values. A quantity prints as its number where it stands: a `Display` of it would name no unit.
+// A call prints as its word and its values, each a bare number in the unit of its quantity.
 impl fmt::Display for Call {
     ghost use Rattle.calls.specs.Printed.{call_shown};
 

@@ -26,7 +26,7 @@ impl Phase {
         self == Phase::Emergency
     }
 
-    // The phase's word: a table of this type alone.
+    // The word by which the phase is shown.
     pub fn word(self) -> &'static str
         ensures { result.now ≡ phase_word self }
     {
@@ -38,7 +38,7 @@ impl Phase {
     }
 }
 
-// A phase prints as its word: one impl for one type, since `Display` is a foreign trait, and none may serve all types at once.
+// A phase prints as its word.
 impl fmt::Display for Phase {
     ghost output = { λ p. Some (phase_word p) };
 

@@ -14,6 +14,13 @@ pub struct Record {
 }
 
 impl Record {
+    // What memory for records may hold before it is written.
+    pub const BLANK: Record = Record {
+        call: Call::Release,
+        answer: Ok(None),
+        phase: Phase::Free,
+    };
+
     // 0 where the call is accepted, else the refusal's number.
     pub fn answer_number(self) -> u8
         ensures { result ≡ answer_number self.answer }

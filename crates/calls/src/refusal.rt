@@ -11,7 +11,7 @@ pub enum Refusal {
     // the grade is not from -35 to 35
     GradeOutOfLimits = 9,
     // the section's place or the target's number is taken, or no target has the number that is withdrawn
-    Taken = 10,
+    Conflict = 10,
     // no more items fit
     Full = 11,
     // the phase is not emergency, or the last accepted call was no sample in zone 0
@@ -19,7 +19,7 @@ pub enum Refusal {
 }
 
 impl Refusal {
-    // The number that stands for the refusal: a cast of this type's own numbers, since a trait for all such types would want the same line in each impl.
+    // The number by which the refusal is reported.
     pub fn number(self) -> u8
         ensures { result ≡ number self }
     {

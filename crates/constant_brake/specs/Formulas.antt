@@ -16,17 +16,17 @@ abbrev pub reaction_ticks : BrakeData → ℕ
 reaction_ticks d = 10000000 * d.reaction
 
 -- The deceleration of the brake is a whole number of units, so that nothing of it is rounded.
-abbrev pub stop_for : BrakeData → (tw ti : ℕ) → Question → Stop
-stop_for d tw ti q = record {
+abbrev pub stop_for : BrakeData → (warning hysteresis : ℕ) → Question → Stop
+stop_for d warning hysteresis q = record {
   speed = q.speed;
   target = q.target;
   reaction = reaction_ticks d;
   slope = slope_of q.grade;
   braking = whole (braking_units d);
   rounded = braking_units d;
-  tw = tw;
-  ti = ti;
+  warning = warning;
+  hysteresis = hysteresis;
 }
 
-abbrev pub meaning_of : BrakeData → (tw ti : ℕ) → Meaning
-meaning_of d tw ti = meaning_by d.top.tenths (stop_for d tw ti)
+abbrev pub meaning_of : BrakeData → (warning hysteresis : ℕ) → Meaning
+meaning_of d warning hysteresis = meaning_by d.top.tenths (stop_for d warning hysteresis)

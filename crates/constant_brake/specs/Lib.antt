@@ -1,7 +1,8 @@
 pub mod Formulas
+pub mod Brakes
 pub mod Making
 pub mod Plain
 pub mod Ranges
 pub mod Refusals
-pub mod Shown
+pub mod Laws
 pub mod Lawfulness

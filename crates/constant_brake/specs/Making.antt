@@ -8,10 +8,10 @@ use Rattle.constant_brake.specs.declared.refusal.Refusal.{Refusal}
 use Rattle.constant_brake.specs.declared.refusal.Refusal.TheVariants.{DecelerationOutOfRange, ReactionTooLong, TopSpeedTooHigh}
 
 -- When a refusal is due: each is asked only where those before it are not due.
-abbrev pub Due : BrakeData → Refusal → Type 0
-Due d DecelerationOutOfRange = deceleration_fits d.deceleration ≡ false
-Due d ReactionTooLong = (deceleration_fits d.deceleration ≡ true) × (reaction_fits d.reaction ≡ false)
-Due d TopSpeedTooHigh = (deceleration_fits d.deceleration ≡ true) × (reaction_fits d.reaction ≡ true) × (top_fits d.top.tenths ≡ false)
+abbrev pub IsRefusedFor : BrakeData → Refusal → Type 0
+IsRefusedFor d DecelerationOutOfRange = deceleration_fits d.deceleration ≡ false
+IsRefusedFor d ReactionTooLong = (deceleration_fits d.deceleration ≡ true) × (reaction_fits d.reaction ≡ false)
+IsRefusedFor d TopSpeedTooHigh = (deceleration_fits d.deceleration ≡ true) × (reaction_fits d.reaction ≡ true) × (top_fits d.top.tenths ≡ false)
 
 -- Every number is in its range.
 pub record Fits (d : BrakeData) : Type 0 where
@@ -20,11 +20,11 @@ pub record Fits (d : BrakeData) : Type 0 where
   pub top : top_fits d.top.tenths ≡ true
 
 -- The brake has the maker's numbers and the sheet's two times.
-pub record Has (d : BrakeData) (v : Values) (b : ConstantBrake) : Type 0 where
+pub record HasNumbers (d : BrakeData) (v : Values) (b : ConstantBrake) : Type 0 where
   pub stated : b.stated ≡ d
-  pub tw : b.lead.tw ≡ v.tw
-  pub ti : b.lead.ti ≡ v.ti
+  pub warning : b.lead.warning.tenths ≡ v.tw
+  pub hysteresis : b.lead.hysteresis.tenths ≡ v.ti
 
-abbrev pub Made : BrakeData → Values → Result ConstantBrake Refusal → Type 0
-Made d v (Ok b) = Fits d × Has d v b
-Made d v (Err e) = Due d e
+abbrev pub MakesBrake : BrakeData → Values → Result ConstantBrake Refusal → Type 0
+MakesBrake d v (Ok b) = Fits d × HasNumbers d v b
+MakesBrake d v (Err e) = IsRefusedFor d e

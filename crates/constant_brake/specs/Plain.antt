@@ -1,5 +1,6 @@
 -- The meaning in plain words, above its definition by a stop.
-use Rattle.std.specs.Prelude.{◌≡◌, ℕ, ◌-◌, ◌*◌, ◌<◌, ◌≤◌, ℤ, pos, negsuc, ◌+ℤ◌, ◌≤ℤ◌, ◌<ℤ◌}
+use Rattle.std.specs.Prelude.{◌≡◌, ℕ, ◌-◌, ◌*◌, ◌<◌, ◌≤◌, ℤ, pos, ◌+ℤ◌, ◌≤ℤ◌, ◌<ℤ◌}
+use Rattle.units.specs.declared.limits.TheConstants.{STEEPEST_FALL}
 use Rattle.units.specs.Fractions.{Fraction, ratio, ◌≈◌, ◌⊕◌}
 use Rattle.braking.specs.Meaning.{Question, Verdict, weak, strong}
 use Rattle.braking.specs.Laws.{Strong}
@@ -23,11 +24,11 @@ abbrev pub ExactControl : Verdict → Fraction → Type 0
 ExactControl weak e = ⊥
 ExactControl (strong exact computed) e = exact.control ≈ e
 
-pub record Plain (d : BrakeData) (tw ti : ℕ) : Type 0 where
+pub record Plain (d : BrakeData) (warning hysteresis : ℕ) : Type 0 where
   -- weak exactly under 500,000 units
-  pub weak_under : (q : Question) → together d q.grade <ℤ pos 500000 → (meaning_of d tw ti).verdict q ≡ weak
-  pub strong_from : (q : Question) → pos 500000 ≤ℤ together d q.grade → Strong ((meaning_of d tw ti).verdict q)
+  pub weak_under : (q : Question) → together d q.grade <ℤ pos 500000 → (meaning_of d warning hysteresis).verdict q ≡ weak
+  pub strong_from : (q : Question) → pos 500000 ≤ℤ together d q.grade → Strong ((meaning_of d warning hysteresis).verdict q)
   -- from 428 mm/s² on weak nowhere
-  pub never_weak : (q : Question) → 428 ≤ d.deceleration → negsuc 34 ≤ℤ q.grade → Strong ((meaning_of d tw ti).verdict q)
+  pub never_weak : (q : Question) → 428 ≤ d.deceleration → STEEPEST_FALL.thousandths ≤ℤ q.grade → Strong ((meaning_of d warning hysteresis).verdict q)
   -- on the level the exact control distance is that of a time at the speed and a constant deceleration
-  pub level : (V V0 : ℕ) → V0 < V → ExactControl ((meaning_of d tw ti).verdict (on_the_level V V0)) (level_control d V V0)
+  pub level : (V V0 : ℕ) → V0 < V → ExactControl ((meaning_of d warning hysteresis).verdict (on_the_level V V0)) (level_control d V V0)

@@ -1,9 +1,10 @@
 ghost use Rattle.std.specs.Prelude.{◌≤◌};
+ghost use Rattle.units.specs.declared.limits.TheConstants.{FASTEST};
 
 use crate::brake_data::BrakeData;
 use stopping::LeadTimes;
 
-// A maker's brake with numbers that are in their ranges, and the two times of a train sheet.
+// A maker's brake: numbers that are in their ranges, by the type, and the warning and hysteresis time of a train sheet.
 #[derive(Clone, Copy, Debug, PartialEq, Eq)]
 pub struct ConstantBrake {
     pub(crate) stated: BrakeData,
@@ -11,6 +12,5 @@ pub struct ConstantBrake {
     ghost not_weaker: { 300 ≤ stated.deceleration },
     ghost not_stronger: { stated.deceleration ≤ 2000 },
     ghost brief: { stated.reaction ≤ 200 },
-    // no `TopSpeed`, since what a maker states is kept whole
-    ghost slow: { stated.top.tenths ≤ 4000 },
+    ghost slow: { stated.top.tenths ≤ FASTEST.tenths },
 }

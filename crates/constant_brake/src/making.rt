@@ -1,13 +1,13 @@
 ghost use Rattle.std.specs.Prelude.{◌≡◌};
-ghost use Rattle.constant_brake.specs.Making.{Made};
+ghost use Rattle.constant_brake.specs.Making.{MakesBrake};
 ghost use Rattle.constant_brake.specs.Ranges.{deceleration_fits, reaction_fits, top_fits};
 
 use crate::brake::ConstantBrake;
 use crate::brake_data::BrakeData;
 use crate::refusal::Refusal;
 use sheet::Admitted;
-use stopping::LeadTimes;
-use units::{FASTEST, Speed};
+use stopping::{LeadTime, LeadTimes};
+use units::FASTEST;
 
 // The least and the greatest deceleration, in mm/s².
 const WEAKEST: u16 = 300;
@@ -17,48 +17,49 @@ const STRONGEST: u16 = 2_000;
 // The longest reaction time, in tenths of a second.
 const LONGEST: u16 = 200;
 
-// Whether a deceleration in mm/s² is in its range.
-fn deceleration_fits(deceleration: u16) -> bool
-    ensures { result ≡ deceleration_fits deceleration }
-{
-    (WEAKEST..=STRONGEST).contains(&deceleration)
-}
+impl BrakeData {
+    // Whether the deceleration is in its range.
+    fn deceleration_fits(self) -> bool
+        ensures { result ≡ deceleration_fits self.deceleration }
+    {
+        (WEAKEST..=STRONGEST).contains(&self.deceleration)
+    }
 
-// Whether a reaction time in tenths of a second is in its range.
-fn reaction_fits(reaction: u16) -> bool
-    ensures { result ≡ reaction_fits reaction }
-{
-    reaction <= LONGEST
-}
+    // Whether the reaction time is in its range.
+    fn reaction_fits(self) -> bool
+        ensures { result ≡ reaction_fits self.reaction }
+    {
+        self.reaction <= LONGEST
+    }
 
-// Whether a top speed is in its range.
-fn top_fits(top: Speed) -> bool
-    ensures { result ≡ top_fits top.tenths }
-{
-    top <= FASTEST
+    // Whether the top speed is in its range.
+    fn top_fits(self) -> bool
+        ensures { result ≡ top_fits self.top.tenths }
+    {
+        self.top <= FASTEST
+    }
 }
 
 impl ConstantBrake {
-    // The brake that a maker states, with the warning and hysteresis times of an admitted sheet, or the first reason why it is none.
+    // The brake that a maker states, with the warning and the hysteresis time of an admitted sheet, or the first number of the maker's that is out of its range.
     pub fn new(stated: BrakeData, sheet: &Admitted) -> Result<ConstantBrake, Refusal>
-        ensures { Made stated sheet.now.values result }
+        ensures { MakesBrake stated sheet.now.values result }
     {
-        if !deceleration_fits(stated.deceleration) {
+        if !stated.deceleration_fits() {
             return Err(Refusal::DecelerationOutOfRange);
         }
-        if !reaction_fits(stated.reaction) {
+        if !stated.reaction_fits() {
             return Err(Refusal::ReactionTooLong);
         }
-        if !top_fits(stated.top) {
+        if !stated.top_fits() {
             return Err(Refusal::TopSpeedTooHigh);
         }
         let values = sheet.values();
         Ok(ConstantBrake {
             stated,
-            // as in `models`: the crate that these times are of knows no sheet
             lead: LeadTimes {
-                tw: values.tw,
-                ti: values.ti,
+                warning: LeadTime { tenths: values.tw },
+                hysteresis: LeadTime { tenths: values.ti },
             },
         })
     }

@@ -6,7 +6,7 @@ mod steps_lines;
 mod table;
 
 use braking::Question;
-use input::{ONE_TEXT, read_most};
+use input::{ONE_TEXT, read_at_most};
 use models::SheetModel;
 use sheet::Draft;
 use sheet_lines::show_sheet;
@@ -24,8 +24,8 @@ const SHOWN: Question = Question {
 };
 
 fn main(rt: HostRuntime) -> io::Result<()> {
-    let text = read_most(rt.alloc(), rt.stdin(), ONE_TEXT)?;
-    // a fault is printed and no error of the program, so `?` does not serve
+    let text = read_at_most(rt.alloc(), rt.stdin(), ONE_TEXT)?;
+    // a fault of the sheet is printed, and is no error of the program
     let sheet = match read_admitted(text.as_slice()) {
         Ok(sheet) => sheet,
         Err(fault) => return println!(rt; "{fault}"),

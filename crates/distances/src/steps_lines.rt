@@ -2,7 +2,7 @@ use braking::Question;
 use models::SheetModel;
 use std::io;
 
-// A question with each of its steps, or the number of its refusal.
+// A question with each of its steps, or its refusal.
 pub(crate) fn show_steps(
     rt: &impl Print,
     model: &SheetModel,
@@ -12,7 +12,7 @@ pub(crate) fn show_steps(
         "speed={} target={} grade={}",
         question.speed.tenths, question.target.tenths, question.grade.thousandths
     )?;
-    // a refusal is printed and no error of the program, so `?` does not serve
+    // a refusal is printed, and is no error of the program
     let steps = match model.steps(question) {
         Err(refusal) => return println!(rt; "{refusal}"),
         Ok(steps) => steps,
@@ -21,7 +21,7 @@ pub(crate) fn show_steps(
     println!(rt; "slope={}", steps.slope.units)?;
     println!(rt; "reached={}", steps.reached.steps)?;
     println!(rt; "net={}", steps.net.units)?;
-    // a line for each distance, where an answer is printed elsewhere in one
+    // a line for each distance, where their `Display` puts them into one
     match steps.answer {
         None => println!(rt; "weak"),
         Some(distances) => println!(rt;

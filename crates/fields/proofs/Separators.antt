@@ -2,7 +2,7 @@
 use Rattle.std.proofs.Common.{◌≡◌, ℕ, zero, suc, ◌^◌, ◌<◌, ◌≤◌, Bool, true, ◌&&◌, ltb, List, [], ◌∷◌, ◌++◌, length, get_or, decimal, refl, ap, ◌∙◌, le_of_suc-le-suc, arith}
 use Rattle.std.proofs.lemmas.Bool.{and_parts, ltb-true}
 use Rattle.std.proofs.lemmas.Fmt.{digits_decimal}
-use Rattle.numerals.proofs.Plainness.{own}
+use Rattle.numerals.proofs.Plainness.{numeral_model}
 
 abbrev pub Without : ℕ → List ℕ → Type 0
 Without s bytes = (k : ℕ) → k < length bytes → get_or bytes k 0 ≡ s → ⊥
@@ -43,4 +43,4 @@ split_at s (c ∷ a) (d ∷ b) x y fa fb e =
 
 -- the digits of a number are above every byte below a minus
 pub digits_high : (n s : ℕ) → n < 2 ^ 64 → s < 45 → Without s (decimal n)
-digits_high n s h low k l e = omega (arith, (digits_decimal own n h k l).0)
+digits_high n s h low k l e = omega (arith, (digits_decimal numeral_model n h k l).0)

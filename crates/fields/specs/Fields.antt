@@ -1,11 +1,11 @@
--- The value behind a key, in the form that is due.
+-- The value behind a key, in the key's form.
 use Rattle.std.specs.Prelude.{◌≡◌, ℕ, ◌+◌, List, length, drop, ℤ, Ok, Err, Result}
 use Rattle.numerals.specs.Numerals.{Writes}
-use Rattle.fields.specs.Keys.{Keyed}
-use Rattle.fields.specs.Lines.{Begins, NoFeed}
+use Rattle.fields.specs.Keys.{HasKey}
+use Rattle.fields.specs.Lines.{Begins, HasNoFeed}
 use Rattle.fields.specs.Signed.{WritesSigned}
-use Rattle.fields.specs.declared.due.Due.{Due}
-use Rattle.fields.specs.declared.due.Due.TheVariants.{Word, Number, Signed}
+use Rattle.fields.specs.declared.form.Form.{Form}
+use Rattle.fields.specs.declared.form.Form.TheVariants.{Word, Number, Signed}
 use Rattle.fields.specs.declared.field.Field.{Field}
 use Rattle.fields.specs.declared.field.Field.TheVariants.{Word as WordField, Number as NumberField, Signed as SignedField}
 use Rattle.fields.specs.declared.faults.TextFault.TheVariants.{NoLineFeed}
@@ -14,14 +14,14 @@ use Rattle.fields.specs.declared.faults.ValueFault.TheVariants.{Text, OtherKey, 
 use Rattle.fields.specs.declared.span.Span.{Span}
 
 -- The value is a number of either sign.
-abbrev pub SignedForm : (most : ℕ) → List ℕ → Type 0
-SignedForm most value = (z : ℤ) × WritesSigned most z value
+abbrev pub HasSignedForm : (max_digits : ℕ) → List ℕ → Type 0
+HasSignedForm max_digits value = (z : ℤ) × WritesSigned max_digits z value
 
--- The value has the due form.
-abbrev pub Fits : Due → List ℕ → Type 0
+-- The value has this form.
+abbrev pub Fits : Form → List ℕ → Type 0
 Fits Word value = Unit {0}
-Fits (Number most) value = (n : ℕ) × Writes most n value
-Fits (Signed most) value = SignedForm most value
+Fits (Number max_digits) value = (n : ℕ) × Writes max_digits n value
+Fits (Signed max_digits) value = HasSignedForm max_digits value
 
 abbrev pub span_of : Field → Span
 span_of (WordField s) = s
@@ -35,28 +35,28 @@ value_of f = (span_of f).bytes.now
 abbrev pub byte_of : Field → ℕ
 byte_of f = (span_of f).byte
 
--- A field of the due case.
-abbrev pub Of : Due → Field → Type 0
-Of Word (WordField s) = Unit {0}
-Of Word (NumberField s) = ⊥
-Of Word (SignedField s) = ⊥
-Of (Number most) (WordField s) = ⊥
-Of (Number most) (NumberField s) = Unit {0}
-Of (Number most) (SignedField s) = ⊥
-Of (Signed most) (WordField s) = ⊥
-Of (Signed most) (NumberField s) = ⊥
-Of (Signed most) (SignedField s) = Unit {0}
+-- The field is one of this form.
+abbrev pub IsOfForm : Form → Field → Type 0
+IsOfForm Word (WordField s) = Unit {0}
+IsOfForm Word (NumberField s) = ⊥
+IsOfForm Word (SignedField s) = ⊥
+IsOfForm (Number max_digits) (WordField s) = ⊥
+IsOfForm (Number max_digits) (NumberField s) = Unit {0}
+IsOfForm (Number max_digits) (SignedField s) = ⊥
+IsOfForm (Signed max_digits) (WordField s) = ⊥
+IsOfForm (Signed max_digits) (NumberField s) = ⊥
+IsOfForm (Signed max_digits) (SignedField s) = Unit {0}
 
 -- What a part of a text, beginning at a byte, answers for a key: its field, or the first question with a no.
-abbrev pub Answers : (part : List ℕ) (byte : ℕ) (key : List ℕ) → Due → Result Field ValueFault → Type 0
-Answers part byte key due (Ok f) = Keyed key part (value_of f) × (byte_of f ≡ byte + length key + 1) × Of due f × Fits due (value_of f)
-Answers part byte key due (Err (Text t)) = ⊥
-Answers part byte key due (Err (OtherKey b)) = (b ≡ byte) × ((value : List ℕ) → Keyed key part value → ⊥)
-Answers part byte key due (Err (BadValue b)) = (b ≡ byte + length key + 1) × ((value : List ℕ) × Keyed key part value × (Fits due value → ⊥))
+abbrev pub PartAnswers : (part : List ℕ) (byte : ℕ) (key : List ℕ) → Form → Result Field ValueFault → Type 0
+PartAnswers part byte key form (Ok f) = HasKey key part (value_of f) × (byte_of f ≡ byte + length key + 1) × IsOfForm form f × Fits form (value_of f)
+PartAnswers part byte key form (Err (Text t)) = ⊥
+PartAnswers part byte key form (Err (OtherKey b)) = (b ≡ byte) × ((value : List ℕ) → HasKey key part value → ⊥)
+PartAnswers part byte key form (Err (BadValue b)) = (b ≡ byte + length key + 1) × ((value : List ℕ) × HasKey key part value × (Fits form value → ⊥))
 
 -- The same of the line of a text from a byte on.
-abbrev pub LineAnswers : (text : List ℕ) (at window : ℕ) (key : List ℕ) → Due → Result Field ValueFault → Type 0
-LineAnswers text at window key due (Ok f) = (line : List ℕ) × Begins window (drop at text) line × Answers line at key due (Ok f)
-LineAnswers text at window key due (Err (Text t)) = (t ≡ NoLineFeed at) × NoFeed window (drop at text)
-LineAnswers text at window key due (Err (OtherKey b)) = (line : List ℕ) × Begins window (drop at text) line × Answers line at key due (Err (OtherKey b))
-LineAnswers text at window key due (Err (BadValue b)) = (line : List ℕ) × Begins window (drop at text) line × Answers line at key due (Err (BadValue b))
+abbrev pub LineAnswers : (text : List ℕ) (at window : ℕ) (key : List ℕ) → Form → Result Field ValueFault → Type 0
+LineAnswers text at window key form (Ok f) = (line : List ℕ) × Begins window (drop at text) line × PartAnswers line at key form (Ok f)
+LineAnswers text at window key form (Err (Text t)) = (t ≡ NoLineFeed at) × HasNoFeed window (drop at text)
+LineAnswers text at window key form (Err (OtherKey b)) = (line : List ℕ) × Begins window (drop at text) line × PartAnswers line at key form (Err (OtherKey b))
+LineAnswers text at window key form (Err (BadValue b)) = (line : List ℕ) × Begins window (drop at text) line × PartAnswers line at key form (Err (BadValue b))

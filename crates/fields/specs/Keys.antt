@@ -6,5 +6,5 @@ abbrev pub equals : ℕ
 equals = 61
 
 -- The line is the key, an equals sign and this value.
-abbrev pub Keyed : (key line value : List ℕ) → Type 0
-Keyed key line value = line ≡ key ++ equals ∷ value
+abbrev pub HasKey : (key line value : List ℕ) → Type 0
+HasKey key line value = line ≡ key ++ equals ∷ value

@@ -15,15 +15,15 @@ pub record Begins (window : ℕ) (bytes line : List ℕ) : Type 0 where
   pub within : length line < window
 
 -- No line feed is among them.
-abbrev pub NoFeed : (window : ℕ) → List ℕ → Type 0
-NoFeed window bytes = (k : ℕ) → k < window → k < length bytes → slice_index bytes k ≢ feed
+abbrev pub HasNoFeed : (window : ℕ) → List ℕ → Type 0
+HasNoFeed window bytes = (k : ℕ) → k < window → k < length bytes → slice_index bytes k ≢ feed
 
 -- The line of a text from a byte on, or that there is none.
-abbrev pub Cut : List ℕ → (at window : ℕ) → Result Span TextFault → Type 0
-Cut text at window (Ok l) = (l.byte ≡ at) × Begins window (drop at text) l.bytes.now
-Cut text at window (Err e) = (e ≡ NoLineFeed at) × NoFeed window (drop at text)
+abbrev pub LineCut : List ℕ → (at window : ℕ) → Result Span TextFault → Type 0
+LineCut text at window (Ok l) = (l.byte ≡ at) × Begins window (drop at text) l.bytes.now
+LineCut text at window (Err e) = (e ≡ NoLineFeed at) × HasNoFeed window (drop at text)
 
--- Nothing of a text is left over from a byte on, or that byte.
-abbrev pub Ended : List ℕ → ℕ → Result (Unit {0}) ℕ → Type 0
-Ended text at (Ok u) = at ≡ length text
-Ended text at (Err b) = (b ≡ at) × (at ≢ length text)
+-- What asking whether a text ends at a byte answers: it does, or from that byte on it is left over.
+abbrev pub EndAsked : List ℕ → ℕ → Result (Unit {0}) ℕ → Type 0
+EndAsked text at (Ok u) = at ≡ length text
+EndAsked text at (Err b) = (b ≡ at) × (at ≢ length text)

@@ -4,7 +4,7 @@ ghost use Rattle.fields.specs.Faults.{number, fault_byte};
 use crate::faults::{TextFault, ValueFault};
 
 impl ValueFault {
-    // The number that stands for the fault: a match, since a kind that holds a byte has no number of its own to cast.
+    // The number by which the fault is reported.
     pub fn number(self) -> u8
         ensures { result ≡ number self }
     {
@@ -15,8 +15,7 @@ impl ValueFault {
         }
     }
 
-    // The byte of the text that the fault is at.
-    // Each kind holds it: a fault holds the fault below it whole, with its byte, and a byte beside the kind would be a second one.
+    // The byte of the text that the fault is at, counted from 0.
     pub fn byte(self) -> usize
         ensures { result ≡ fault_byte self }
     {

@@ -1,11 +1,11 @@
 ghost use Rattle.std.specs.Prelude.{◌+◌, ◌^◌, ◌<◌, length};
 
-use crate::due::Due;
 use crate::faults::ValueFault;
 use crate::field::Field;
+use crate::form::Form;
 use crate::keys::value_behind;
 
-// A part of a text, with the byte of the text that it begins at.
+// A part of a text, with the byte of the text that it begins at, counted from 0.
 #[derive(Clone, Copy, Debug, PartialEq, Eq)]
 pub struct Span<'a> {
     pub bytes: &'a [u8],
@@ -13,17 +13,17 @@ pub struct Span<'a> {
 }
 
 impl<'a> Span<'a> {
-    ghost use Rattle.fields.specs.Fields.{Answers};
+    ghost use Rattle.fields.specs.Fields.{PartAnswers};
 
     // The field of a key in this part of a text.
-    pub(crate) fn field(self, key: &[u8], due: Due) -> Result<Field<'a>, ValueFault>
+    pub(crate) fn field(self, key: &[u8], form: Form) -> Result<Field<'a>, ValueFault>
         requires { self.byte + length self.bytes.now < 2 ^ 64 }
-        ensures { Answers self.entry.bytes.now self.entry.byte key.now due result }
+        ensures { PartAnswers self.entry.bytes.now self.entry.byte key.now form result }
     {
         let bytes = value_behind(self.bytes, key).ok_or(ValueFault::OtherKey(self.byte))?;
         let byte = self.byte + key.len() + 1;
-        if due.fits(bytes) {
-            Ok(due.field(Span { bytes, byte }))
+        if form.fits(bytes) {
+            Ok(form.field(Span { bytes, byte }))
         } else {
             Err(ValueFault::BadValue(byte))
         }

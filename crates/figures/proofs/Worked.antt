@@ -1,12 +1,12 @@
 -- The worked figures follow by computing.
 use mathlib.Core.Path.{refl}
-use Rattle.stopping.specs.Stops.{reached, reached_up, net_exact, net_positive, exact_control, exact_distances, computed_distances, verdict}
+use Rattle.stopping.specs.Stops.{speed_reached, speed_reached_up, net_exact, net_positive, exact_control, exact_distances, computed_distances, verdict}
 use Rattle.models.specs.Formulas.{reaction_time, factors}
 use Rattle.models.specs.Vl.{vl}
 use Rattle.figures.specs.Stated.{Stated}
 
 pub stated : Stated
-unfolding reached reached_up net_exact net_positive exact_control exact_distances computed_distances verdict reaction_time factors vl
+unfolding speed_reached speed_reached_up net_exact net_positive exact_control exact_distances computed_distances verdict reaction_time factors vl
 stated = record {
   fading_at_45 = refl;
   fading_at_100 = refl;

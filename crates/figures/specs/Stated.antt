@@ -4,7 +4,7 @@ use Rattle.units.specs.Fractions.{Fraction, ratio, ◌≈◌}
 use Rattle.braking.specs.Meaning.{Question, Verdict, weak, strong}
 use Rattle.sheet.specs.declared.values.Values.{Values}
 use Rattle.stopping.specs.Slopes.{slope_of}
-use Rattle.stopping.specs.Stops.{reached_up}
+use Rattle.stopping.specs.Stops.{speed_reached_up}
 use Rattle.models.specs.Formulas.{reaction_time}
 use Rattle.models.specs.Meanings.{stop_for, meaning_of}
 use Rattle.models.specs.Vl.{vl}
@@ -15,8 +15,8 @@ abbrev pub to_stop : ℤ → Question
 to_stop grade = record { speed = 1000; target = 0; grade = grade }
 
 -- What the model that a sheet names says of a question.
-abbrev pub says : Values → Question → Verdict
-says v q = (meaning_of v.model v).verdict q
+abbrev pub verdict_on : Values → Question → Verdict
+verdict_on v q = (meaning_of v.model v).verdict q
 
 abbrev pub Control : Verdict → ℕ → Type 0
 Control weak c = ⊥
@@ -42,12 +42,12 @@ pub record Stated : Type 0 where
   pub time_at_599 : reaction_time sheet_a.model sheet_a 599 300 ≡ 70000000
   pub time_at_600 : reaction_time sheet_a.model sheet_a 600 300 ≡ 1053750000
   -- sheet A from 100 km/h to a stop, on the level
-  pub level : Computed (says sheet_a (to_stop (pos 0))) 787963 843519 926853
-  pub level_exactly : Exact (says sheet_a (to_stop (pos 0))) (ratio 49719603125 63099) (ratio 53225103125 63099) (ratio 58483353125 63099)
+  pub level : Computed (verdict_on sheet_a (to_stop (pos 0))) 787963 843519 926853
+  pub level_exactly : Exact (verdict_on sheet_a (to_stop (pos 0))) (ratio 49719603125 63099) (ratio 53225103125 63099) (ratio 58483353125 63099)
   -- the same on a fall of 21 thousandths
-  pub falling_reached : reached_up (stop_for sheet_a.model sheet_a (to_stop (negsuc 20))) ≡ 1085965
-  pub falling_control : Control (says sheet_a (to_stop (negsuc 20))) 1141539
+  pub falling_reached : speed_reached_up (stop_for sheet_a.model sheet_a (to_stop (negsuc 20))) ≡ 1085965
+  pub falling_control : Control (verdict_on sheet_a (to_stop (negsuc 20))) 1141539
   -- a brake that is too weak for the steepest fall
-  pub too_weak : says weak_sheet (to_stop (negsuc 34)) ≡ weak
+  pub too_weak : verdict_on weak_sheet (to_stop (negsuc 34)) ≡ weak
   -- the other model
-  pub etcs_control : Control (says etcs_sheet (to_stop (pos 0))) 1251887
+  pub etcs_control : Control (verdict_on etcs_sheet (to_stop (pos 0))) 1251887

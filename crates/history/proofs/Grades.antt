@@ -7,12 +7,9 @@ use Rattle.std.specs.Int.{int_min}
 use Rattle.std.proofs.lemmas.Bool.{cases_lt, le-leb, lt-leb, cond_both, leb-true, leb-false}
 use Rattle.place_list.specs.Membership.{In}
 use Rattle.history.specs.History.{Section}
-use Rattle.history.specs.Step.{least_grade, unfit_grade}
-use Rattle.history.specs.Agrees.{Above, Ascends}
-
-pub above_ascends : (p : ℕ) (xs : List Section) → Above p xs → Ascends xs
-above_ascends p [] h = tt
-above_ascends p (x ∷ xs) h = h.1
+use Rattle.history.specs.State.{is_unfit}
+use Rattle.history.specs.Zones.{least_grade}
+use Rattle.history.proofs.Tracked.{Above, Ascends, above_ascends}
 
 pub above_in : (p : ℕ) (xs : List Section) → Above p xs → (y : Section) → In y xs → p < y.place
 above_in p [] h y i = absurd i
@@ -153,13 +150,13 @@ least_passed d front place (x ∷ xs) l =
     ]
 
 -- Where no section's grade is unfit, nor the one before them, the computed one is not.
-pub least_fit : (d : ℤ) (front place : ℕ) (xs : List Section) → unfit_grade d ≡ false → ((x : Section) → In x xs → unfit_grade x.grade ≡ false) → unfit_grade (least_grade d front place xs) ≡ false
+pub least_fit : (d : ℤ) (front place : ℕ) (xs : List Section) → is_unfit d ≡ false → ((x : Section) → In x xs → is_unfit x.grade ≡ false) → is_unfit (least_grade d front place xs) ≡ false
 least_fit d front place [] u all = u
 least_fit d front place (x ∷ xs) u all =
-    let here : unfit_grade x.grade ≡ false = all x (inl refl) in
-    let low : unfit_grade (int_min d x.grade) ≡ false = grind arith in
-    let rest : (y : Section) → In y xs → unfit_grade y.grade ≡ false = λ y i. all y (inr i) in
-    cond_both (leb x.place front) (least_grade x.grade front place xs) _ (λ (g : ℤ). unfit_grade g ≡ false)
+    let here : is_unfit x.grade ≡ false = all x (inl refl) in
+    let low : is_unfit (int_min d x.grade) ≡ false = grind arith in
+    let rest : (y : Section) → In y xs → is_unfit y.grade ≡ false = λ y i. all y (inr i) in
+    cond_both (leb x.place front) (least_grade x.grade front place xs) _ (λ (g : ℤ). is_unfit g ≡ false)
     (λ e. least_fit x.grade front place xs here rest)
-    (λ e. cond_both (leb x.place place) (least_grade (int_min d x.grade) front place xs) d (λ (g : ℤ). unfit_grade g ≡ false)
+    (λ e. cond_both (leb x.place place) (least_grade (int_min d x.grade) front place xs) d (λ (g : ℤ). is_unfit g ≡ false)
     (λ e'. least_fit (int_min d x.grade) front place xs low rest) (λ e'. u))

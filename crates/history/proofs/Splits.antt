@@ -1,10 +1,14 @@
 -- What one more entry does to a history: how it splits, and what then stands.
-use Rattle.std.proofs.Common.{◌≡◌, ℕ, ◌⊎◌, [], ◌∷◌, ◌++◌, refl, ap, ◌∙◌, inl, inr, append_assoc, arith}
+use Rattle.std.proofs.Common.{◌≡◌, ℕ, ◌⊎◌, false, true, [], ◌∷◌, ◌++◌, sym, refl, ap, ◌∙◌, subst, inl, inr, append_assoc, arith}
 use Rattle.calls.specs.declared.call.Call.{Call}
 use Rattle.calls.specs.declared.phase.Phase.{Phase}
 use Rattle.calls.specs.declared.record.Record.{Record}
-use Rattle.history.specs.History.{History, Target, Accepts, AcceptedIn, TargetStands, target_place, announce, withdraw}
-use Rattle.history.specs.Lines.{last_phase}
+use Rattle.sheet.specs.declared.values.Values.{Values}
+use Rattle.history.specs.History.{History, Target, Accepts, AcceptedIn, WasAccepted, TargetStands, target_place, announce, withdraw}
+use Rattle.history.specs.Lines.{LastAccepted, last_phase}
+
+pub not_true : {P : Type 0} → false ≡ true → P
+not_true e = grind arith
 
 pub nil_split : (before : History) (e : Record) (after : History) → [] ≡ before ++ e ∷ after → ⊥
 nil_split [] e after h = grind arith
@@ -31,6 +35,28 @@ last_push p (x ∷ h) r = last_push x.phase h r
 pub longer : (h before : History) (e : Record) (after : History) (r : Record) → h ≡ before ++ e ∷ after → h ++ r ∷ [] ≡ before ++ e ∷ (after ++ r ∷ [])
 longer h before e after r s = ap (λ (t : History). t ++ r ∷ []) s ∙ append_assoc before (e ∷ after) (r ∷ [])
 
+-- A new entry is the last; behind a refused one the last accepted stays so.
+pub last_new : (h : History) (e : Record) → LastAccepted (h ++ e ∷ []) h e
+last_new h e = record { after = []; split = refl; refused = λ b x a y acc. nil_split b x a y }
+
+pub last_refused : (h before : History) (entry e : Record) → (WasAccepted e.answer → ⊥) → LastAccepted h before entry → LastAccepted (h ++ e ∷ []) before entry
+last_refused h before entry e never w = record {
+  after = w.after ++ e ∷ [];
+  split = longer h before entry w.after e w.split;
+  refused = λ b x a p acc. elim (split_push w.after b e x a p) [
+    | inl y ↦ never (subst (λ (r : Record). WasAccepted r.answer) (sym y.1) acc)
+    | inr y ↦ w.refused b x y.0 y.2 acc
+  ];
+}
+
+-- What was last before an entry that is refused was last without it.
+pub last_old : (h before : History) (entry e : Record) (w : LastAccepted (h ++ e ∷ []) before entry) (a : History) → w.after ≡ a ++ e ∷ [] → h ≡ before ++ entry ∷ a → LastAccepted h before entry
+last_old h before entry e w a behind split = record {
+  after = a;
+  split = split;
+  refused = λ b x more p acc. w.refused b x (more ++ e ∷ []) (behind ∙ longer a b x more e p) acc;
+}
+
 pub accepted_more : {h : History} {c : Call} (r : Record) → AcceptedIn h c → AcceptedIn (h ++ r ∷ []) c
 accepted_more {h} r a = record { before = a.before; entry = a.entry; after = a.after ++ r ∷ []; split = longer h a.before a.entry a.after r a.split; accepts = a.accepts }
 
@@ -47,8 +73,8 @@ accepted_cases h c r a =
 pub accepted_none : (c : Call) → AcceptedIn [] c → ⊥
 accepted_none c a = nil_split a.before a.entry a.after a.split
 
-module _ (eps : ℕ) (h : History) (t : Target) (r : Record) where
-  pub stands_more : TargetStands eps h t → (Accepts r (withdraw t.number) → ⊥) → TargetStands eps (h ++ r ∷ []) t
+module _ (sheet : Values) (h : History) (t : Target) (r : Record) where
+  pub stands_more : TargetStands sheet h t → (Accepts r (withdraw t.number) → ⊥) → TargetStands sheet (h ++ r ∷ []) t
   stands_more a n = record {
     before = a.before;
     entry = a.entry;
@@ -61,11 +87,11 @@ module _ (eps : ℕ) (h : History) (t : Target) (r : Record) where
     kept = λ w. elim (accepted_cases a.after (withdraw t.number) r w) [ inl k ↦ a.kept k | inr k ↦ n k ];
   }
 
-  pub stands_new : (point distance : ℕ) → Accepts r (announce t.number point distance t.speed) → t.place ≡ target_place eps point distance → TargetStands eps (h ++ r ∷ []) t
+  pub stands_new : (point distance : ℕ) → Accepts r (announce t.number point distance t.speed) → t.place ≡ target_place sheet point distance → TargetStands sheet (h ++ r ∷ []) t
   stands_new point distance a p = record { before = h; entry = r; after = []; point = point; distance = distance; split = refl; announced = a; placed = p; kept = accepted_none (withdraw t.number) }
 
-  pub stands_cases : TargetStands eps (h ++ r ∷ []) t →
-      (TargetStands eps h t × (Accepts r (withdraw t.number) → ⊥)) ⊎ ((point : ℕ) × (distance : ℕ) × Accepts r (announce t.number point distance t.speed) × (t.place ≡ target_place eps point distance))
+  pub stands_cases : TargetStands sheet (h ++ r ∷ []) t →
+      (TargetStands sheet h t × (Accepts r (withdraw t.number) → ⊥)) ⊎ ((point : ℕ) × (distance : ℕ) × Accepts r (announce t.number point distance t.speed) × (t.place ≡ target_place sheet point distance))
   stands_cases a =
       elim (split_push h a.before r a.entry a.after a.split) [
         | inl w ↦ grind arith
@@ -73,5 +99,5 @@ module _ (eps : ℕ) (h : History) (t : Target) (r : Record) where
             inl (record { before = a.before; entry = a.entry; after = w.0; point = a.point; distance = a.distance; split = w.2; announced = a.announced; placed = a.placed; kept = λ k. kept (accepted_more r k) }, λ k. grind arith)
       ]
 
-pub stands_none : (eps : ℕ) (t : Target) → TargetStands eps [] t → ⊥
-stands_none eps t a = nil_split a.before a.entry a.after a.split
+pub stands_none : (sheet : Values) (t : Target) → TargetStands sheet [] t → ⊥
+stands_none sheet t a = nil_split a.before a.entry a.after a.split

@@ -1,10 +1,10 @@
 -- Each step keeps the three lines, and what clear says.
 use Rattle.std.proofs.Common.{◌≡◌, ℕ, ◌<◌, ◌≤◌, Bool, true, false, not, [], ◌∷◌, ◌++◌, ℤ, Some, None, Err, sym, refl, ap, ◌∙◌, subst, inl, inr, arith}
-use Rattle.std.proofs.lemmas.Bool.{cases_lt}
+use Rattle.std.proofs.lemmas.Bool.{cases_lt, ltb-true}
 use Rattle.units.specs.declared.quantities.Distance.{Distance}
 use Rattle.units.specs.declared.quantities.Speed.{Speed}
 use Rattle.braking.specs.Laws.{Lawful, Sound}
-use Rattle.braking.specs.Meaning.{Meaning, Question, Asked}
+use Rattle.braking.specs.Meaning.{Meaning, Question, Asked, Binds}
 use Rattle.calls.specs.declared.call.Call.{Call}
 use Rattle.calls.specs.declared.call.Call.TheVariants.{Slope, Announce, Withdraw, Sample, Release}
 use Rattle.calls.specs.declared.phase.Phase.{Phase}
@@ -12,12 +12,15 @@ use Rattle.calls.specs.declared.phase.Phase.TheVariants.{Free, Warning, Emergenc
 use Rattle.calls.specs.declared.record.Record.{Record}
 use Rattle.calls.specs.declared.refusal.Refusal.{Refusal}
 use Rattle.calls.specs.declared.zone.Zone.TheVariants as zones
+use Rattle.sheet.specs.declared.values.Values.{Values}
 use Rattle.history.specs.History.{History, Target, Accepts, Bound, steepest, sample}
 use Rattle.history.specs.Lines.{Lines, LastSampleClear, Reason, MustBrake, IsClear, On}
-use Rattle.history.specs.Step.{State, Stepped, step, does, decide, first, grounds, unfit_grade, question, target_zone, largest_zone, zone_in, zone_of, next, releasable}
+use Rattle.history.specs.State.{State, is_unfit}
+use Rattle.history.specs.Zones.{question, target_zone, largest_zone, zone_of, zone}
+use Rattle.history.specs.Step.{Stepped, step, does, decide, first, grounds, next_phase, is_releasable}
 use Rattle.history.specs.Runs.{entry_of}
-use Rattle.history.specs.Agrees.{Tracks}
-use Rattle.history.proofs.Splits.{nil_split, split_push, longer}
+use Rattle.history.proofs.Tracked.{Tracks}
+use Rattle.history.proofs.Splits.{last_new, last_refused, not_true}
 use Rattle.history.proofs.Grades.{least_fit}
 use Rattle.history.proofs.Tracks.{ahead_is, ahead_one, same_front, same_speed, groundless}
 use Rattle.history.proofs.Zones.{must_control, control_may, clear_clear, binding_zone, one_control, all_clear, some_control, next_control, next_came, clear_is}
@@ -28,28 +31,25 @@ asking v w g = record { speed = v; target = w; grade = g }
 same_question : (v v' w w' : ℕ) (g g' : ℤ) → v ≡ v' → w ≡ w' → g ≡ g' → asking v w g ≡ asking v' w' g'
 same_question v v' w w' g g' a b c = grind arith
 
--- A grade that is fit is within the limits.
-fit_asked : (top v w : ℕ) (g : ℤ) → v ≤ top → w < v → unfit_grade g ≡ false → Asked top (asking v w g)
-fit_asked top v w g l b f = grind arith
+-- A binding question with a fit grade can be asked.
+fit_asked : (m : Meaning) (v w : ℕ) (g : ℤ) → v ≤ m.top → Binds m (asking v w g) → is_unfit g ≡ false → Asked m.top (asking v w g)
+fit_asked m v w g l b f = let lower : w < v = ltb-true w v b in grind arith
 
 -- What is known of clear in the state that an entry leaves.
-abbrev pub Known : (eps : ℕ) → Meaning → History → State → Type 0
-Known eps m h s = s.clear ≡ true → LastSampleClear eps m h
+abbrev pub Known : (sheet : Values) → Meaning → History → State → Type 0
+Known sheet m h s = s.clear ≡ true → LastSampleClear sheet m h
 
 -- The lines at the entry of a step, and what is known after it.
-abbrev pub Good : (eps : ℕ) → Meaning → History → Call → Stepped → Type 0
-Good eps m h c r = Lines eps m h (entry_of c r) × Known eps m (h ++ entry_of c r ∷ []) r.state
+abbrev pub Good : (sheet : Values) → Meaning → History → Call → Stepped → Type 0
+Good sheet m h c r = Lines sheet m h (entry_of c r) × Known sheet m (h ++ entry_of c r ∷ []) r.state
 
-pub never_clear : {P : Type 0} → false ≡ true → P
-never_clear e = grind arith
-
-module _ (eps : ℕ) (m : Meaning) (law : Lawful m) (h : History) (s : State) (k : Tracks eps h s) (known : Known eps m h s) where
+module _ (sheet : Values) (m : Meaning) (law : Lawful m) (h : History) (s : State) (k : Tracks sheet h s) (known : Known sheet m h s) where
   -- an entry that keeps the phase and is no accepted sample
-  quiet : (e : Record) → e.phase ≡ s.phase → ((front v : ℕ) → Accepts e (sample front v) → ⊥) → Lines eps m h e
+  quiet : (e : Record) → e.phase ≡ s.phase → ((front v : ℕ) → Accepts e (sample front v) → ⊥) → Lines sheet m h e
   quiet e same never = grind arith
 
   -- a refused call alters nothing
-  good_refused : (c : Call) (r : Refusal) → Good eps m h c (record { answer = Err r; state = s })
+  good_refused : (c : Call) (r : Refusal) → Good sheet m h c (record { answer = Err r; state = s })
   good_refused c r =
       let e : Record = record { call = c; answer = Err r; phase = s.phase } in (
         quiet e refl (λ front v a. a.1),
@@ -57,12 +57,7 @@ module _ (eps : ℕ) (m : Meaning) (law : Lawful m) (h : History) (s : State) (k
             record {
               before = w.before;
               entry = w.entry;
-              after = w.after ++ e ∷ [];
-              split = longer h w.before w.entry w.after e w.split;
-              last = λ b x a p acc. elim (split_push w.after b e x a p) [
-                | inl y ↦ grind arith
-                | inr y ↦ w.last b x y.0 y.2 acc
-              ];
+              last = last_refused h w.before w.entry e (λ x. x) w.last;
               front = w.front;
               speed = w.speed;
               sampled = w.sampled;
@@ -72,58 +67,61 @@ module _ (eps : ℕ) (m : Meaning) (law : Lawful m) (h : History) (s : State) (k
       )
 
   -- the question of a binding target is the computed one
-  pub asks : (front v : ℕ) (t : Target) (q : Question) → Bound eps h front v t q → q ≡ question s.sections front v t
-  asks front v t q b = same_question q.speed v q.target t.speed q.grade _ b.asks_speed b.asks_target (ahead_one eps h s k front t.place q.grade b.asks_grade)
+  pub asks : (front v : ℕ) (t : Target) (q : Question) → Bound sheet m h front v t q → q ≡ question s.track.sections.items front v t
+  asks front v t q b = same_question q.speed v q.target t.speed q.grade _ b.asks_speed b.asks_target (ahead_one sheet h s k front t.place q.grade b.asks_grade)
 
-  fit : (front v : ℕ) (t : Target) → unfit_grade (question s.sections front v t).grade ≡ false
-  fit front v t = least_fit steepest front t.place s.sections refl k.fit
+  fit : (front v : ℕ) (t : Target) → is_unfit (question s.track.sections.items front v t).grade ≡ false
+  fit front v t = least_fit steepest front t.place s.track.sections.items refl k.fit
 
-  sound : (front v : ℕ) (t : Target) → t.speed < v → v ≤ m.top → Sound (m.verdict (question s.sections front v t))
-  sound front v t slow l = law.sound (question s.sections front v t) (fit_asked m.top v t.speed _ l slow (fit front v t)) slow
+  sound : (front v : ℕ) (t : Target) → Binds m (question s.track.sections.items front v t) → v ≤ m.top → Sound (m.verdict (question s.track.sections.items front v t))
+  sound front v t b l = law.sound (question s.track.sections.items front v t) (fit_asked m v t.speed _ l b (fit front v t)) b
 
-  zone_is : (front v : ℕ) (t : Target) → t.speed < v → target_zone m s.sections front v t ≡ zone_of (m.verdict (question s.sections front v t)) front t.place
-  zone_is front v t slow = binding_zone m s.sections front v t slow (fit front v t)
+  zone_is : (front v : ℕ) (t : Target) → Binds m (question s.track.sections.items front v t) → target_zone m s.track.sections.items front v t ≡ zone_of (m.verdict (question s.track.sections.items front v t)) front t.place
+  zone_is front v t b = binding_zone m s.track.sections.items front v t b
 
-  too_fast_zone : (front v : ℕ) → m.top < v → zone_in m s front v ≡ zones.Control
+  binding : (front v : ℕ) (t : Target) (q : Question) → Bound sheet m h front v t q → Binds m (question s.track.sections.items front v t)
+  binding front v t q b = subst (Binds m) (asks front v t q b) b.binds
+
+  too_fast_zone : (front v : ℕ) → m.top < v → zone m s.track front v ≡ zones.Control
   too_fast_zone front v l = grind arith
 
-  fine_zone : (front v : ℕ) → v ≤ m.top → zone_in m s front v ≡ largest_zone m s.sections front v s.targets
-  fine_zone front v l = grind arith
+  slow_zone : (front v : ℕ) → v ≤ m.top → zone m s.track front v ≡ largest_zone m s.track.sections.items front v s.track.targets.items
+  slow_zone front v l = grind arith
 
-  near_zone : (front v : ℕ) → v ≤ m.top → (t : Target) (q : Question) → Bound eps h front v t q → MustBrake (m.verdict q) front t.place → zone_in m s front v ≡ zones.Control
+  near_zone : (front v : ℕ) → v ≤ m.top → (t : Target) (q : Question) → Bound sheet m h front v t q → MustBrake (m.verdict q) front t.place → zone m s.track front v ≡ zones.Control
   near_zone front v l t q b must =
-      let slow : t.speed < v = grind arith in
-      let must' : MustBrake (m.verdict (question s.sections front v t)) front t.place = subst (λ (q : Question). MustBrake (m.verdict q) front t.place) (asks front v t q b) must in
-      let three : target_zone m s.sections front v t ≡ zones.Control = zone_is front v t slow ∙ must_control _ front t.place (sound front v t slow l) must' in
-      fine_zone front v l ∙ one_control m s.sections front v s.targets t (k.target_in t b.stands) three
+      let slow = binding front v t q b in
+      let must' : MustBrake (m.verdict (question s.track.sections.items front v t)) front t.place = subst (λ (q : Question). MustBrake (m.verdict q) front t.place) (asks front v t q b) must in
+      let three : target_zone m s.track.sections.items front v t ≡ zones.Control = zone_is front v t slow ∙ must_control _ front t.place (sound front v t slow l) must' in
+      slow_zone front v l ∙ one_control m s.track.sections.items front v s.track.targets.items t (k.target_listed t b.stands) three
 
-  reason : (front v : ℕ) → zone_in m s front v ≡ zones.Control → Reason eps m h front v
+  reason : (front v : ℕ) → zone m s.track front v ≡ zones.Control → Reason sheet m h front v
   reason front v three =
       elim (cases_lt m.top v) [
         | inl fast ↦ inl fast
-        | inr fine ↦
-            let w = some_control m s.sections front v s.targets (sym (fine_zone front v fine) ∙ three) in
+        | inr slow ↦
+            let w = some_control m s.track.sections.items front v s.track.targets.items (sym (slow_zone front v slow) ∙ three) in
             inr (
-              fine,
+              slow,
               (
                 w.0,
-                question s.sections front v w.0,
-                record { stands = grind arith; asks_speed = refl; asks_target = refl; asks_grade = ahead_is eps h s k front w.0.place; binds = w.2 },
-                control_may _ front w.0.place (sound front v w.0 w.2 fine) (sym (zone_is front v w.0 w.2) ∙ w.3),
+                question s.track.sections.items front v w.0,
+                record { stands = grind arith; asks_speed = refl; asks_target = refl; asks_grade = ahead_is sheet h s k front w.0.place; binds = w.2 },
+                control_may _ front w.0.place (sound front v w.0 w.2 slow) (sym (zone_is front v w.0 w.2) ∙ w.3),
               ),
             )
       ]
 
-  clear_there : (front v : ℕ) → zone_in m s front v ≡ zones.Clear → v ≤ m.top → (t : Target) (q : Question) → Bound eps h front v t q → IsClear (m.verdict q) front t.place
+  clear_there : (front v : ℕ) → zone m s.track front v ≡ zones.Clear → v ≤ m.top → (t : Target) (q : Question) → Bound sheet m h front v t q → IsClear (m.verdict q) front t.place
   clear_there front v none l t q b =
-      let slow : t.speed < v = grind arith in
-      let mine : target_zone m s.sections front v t ≡ zones.Clear = all_clear m s.sections front v s.targets t (k.target_in t b.stands) (sym (fine_zone front v l) ∙ none) in
+      let slow = binding front v t q b in
+      let mine : target_zone m s.track.sections.items front v t ≡ zones.Clear = all_clear m s.track.sections.items front v s.track.targets.items t (k.target_listed t b.stands) (sym (slow_zone front v l) ∙ none) in
       subst (λ (q : Question). IsClear (m.verdict q) front t.place) (sym (asks front v t q b)) (clear_clear _ front t.place (sound front v t slow l) (sym (zone_is front v t slow) ∙ mine))
 
-  good_sample : (p : Distance) (w : Speed) → Good eps m h (Sample p w) (does eps m s (Sample p w))
+  good_sample : (p : Distance) (w : Speed) → Good sheet m h (Sample p w) (does sheet m s (Sample p w))
   good_sample p w =
-      let e : Record = entry_of (Sample p w) (does eps m s (Sample p w)) in
-      let on : zone_in m s p.millimetres w.tenths ≡ zones.Control → On e = next_control s.phase (zone_in m s p.millimetres w.tenths) in (
+      let e : Record = entry_of (Sample p w) (does sheet m s (Sample p w)) in
+      let on : zone m s.track p.millimetres w.tenths ≡ zones.Control → On e = next_control s.phase (zone m s.track p.millimetres w.tenths) in (
         record {
           in_time = record {
             too_fast = λ front' v' a l. on (too_fast_zone p.millimetres w.tenths (omega (arith, same_speed p w front' v' a.0)));
@@ -131,34 +129,34 @@ module _ (eps : ℕ) (m : Meaning) (law : Lawful m) (h : History) (s : State) (k
                 let ev : v' ≡ w.tenths = same_speed p w front' v' a.0 in
                 let ef : front' ≡ p.millimetres = same_front p w front' v' a.0 in
                 on (near_zone p.millimetres w.tenths (omega arith) t q
-                (subst (λ (x : ℕ). Bound eps h p.millimetres x t q) ev (subst (λ (x : ℕ). Bound eps h x v' t q) ef b))
+                (subst (λ (x : ℕ). Bound sheet m h p.millimetres x t q) ev (subst (λ (x : ℕ). Bound sheet m h x v' t q) ef b))
                 (subst (λ (x : ℕ). MustBrake (m.verdict q) x t.place) ef must));
           };
-          for_a_reason = λ off came. (p.millimetres, w.tenths, (refl, tt), reason p.millimetres w.tenths (next_came s.phase (zone_in m s p.millimetres w.tenths) (λ y. off (k.phase ∙ y)) came));
-          when_clear = λ was off. absurd (off (ap (λ (y : Phase). next y (zone_in m s p.millimetres w.tenths)) (sym k.phase ∙ was)));
+          for_a_reason = λ off came. (p.millimetres, w.tenths, (refl, tt), reason p.millimetres w.tenths (next_came s.phase (zone m s.track p.millimetres w.tenths) (λ y. off (k.phase ∙ y)) came));
+          when_clear = λ was off. absurd (off (ap (λ (y : Phase). next_phase y (zone m s.track p.millimetres w.tenths)) (sym k.phase ∙ was)));
         },
         λ clear.
-            let none : zone_in m s p.millimetres w.tenths ≡ zones.Clear = clear_is _ clear in
-            let fine : w.tenths ≤ m.top = grind arith in
-            record { before = h; entry = e; after = []; split = refl; last = λ b x a y acc. nil_split b x a y; front = p.millimetres; speed = w.tenths; sampled = (refl, tt); not_too_fast = fine; all_clear = clear_there p.millimetres w.tenths none fine },
+            let none : zone m s.track p.millimetres w.tenths ≡ zones.Clear = clear_is _ clear in
+            let slow : w.tenths ≤ m.top = grind arith in
+            record { before = h; entry = e; last = last_new h e; front = p.millimetres; speed = w.tenths; sampled = (refl, tt); not_too_fast = slow; all_clear = clear_there p.millimetres w.tenths none slow },
       )
 
-  released : (p : Phase) (b : Bool) → not (releasable p b) ≡ false → b ≡ true
+  released : (p : Phase) (b : Bool) → not (is_releasable p b) ≡ false → b ≡ true
   released Free b e = grind arith
   released Warning b e = grind arith
   released Emergency true e = refl
-  released Emergency false e = never_clear (sym e)
+  released Emergency false e = not_true (sym e)
 
-  good_release : s.clear ≡ true → Good eps m h Release (does eps m s Release)
+  good_release : s.clear ≡ true → Good sheet m h Release (does sheet m s Release)
   good_release clear = grind arith
 
-  good_does : (c : Call) → first (grounds m s c) ≡ None → Good eps m h c (does eps m s c)
+  good_does : (c : Call) → first (grounds m s c) ≡ None → Good sheet m h c (does sheet m s c)
   good_does (Slope p g) none = grind arith
   good_does (Announce n p d w) none = grind arith
   good_does (Withdraw n) none = grind arith
   good_does (Sample p w) none = good_sample p w
   good_does Release none = good_release (released s.phase s.clear (groundless (grounds m s Release) none).0)
 
-  pub good_step : (c : Call) → Good eps m h c (step eps m s c)
-  good_step c = elim (first (grounds m s c)) as (λ o. first (grounds m s c) ≡ o → Good eps m h c (decide o s (does eps m s c)))
+  pub good_step : (c : Call) → Good sheet m h c (step sheet m s c)
+  good_step c = elim (first (grounds m s c)) as (λ o. first (grounds m s c) ≡ o → Good sheet m h c (decide o s (does sheet m s c)))
       [ None ↦ λ e. good_does c e | Some r ↦ λ e. good_refused c r ] refl

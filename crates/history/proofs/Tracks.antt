@@ -15,66 +15,69 @@ use Rattle.calls.specs.declared.phase.Phase.{Phase}
 use Rattle.calls.specs.declared.phase.Phase.TheVariants.{Free}
 use Rattle.calls.specs.declared.record.Record.{Record}
 use Rattle.calls.specs.declared.refusal.Refusal.{Refusal}
+use Rattle.sheet.specs.declared.values.Values.{Values}
 use Rattle.history.specs.History.{History, Section, Target, Accepts, SectionStands, TargetStands, GradeAt, GradeAhead, target_place, steepest, slope, announce, withdraw, sample}
-use Rattle.history.specs.Step.{State, Ground, start, step, does, decide, first, grounds, least_grade, unfit_grade, begins_at, numbered}
+use Rattle.history.specs.State.{Capacity, empty_track, State, start, is_unfit, begins_at, has_number}
+use Rattle.history.specs.Zones.{least_grade}
+use Rattle.history.specs.Step.{Ground, step, does, decide, first, grounds}
 use Rattle.history.specs.Runs.{entry_of}
-use Rattle.history.specs.Agrees.{Tracks}
+use Rattle.history.proofs.Tracked.{Tracks, no_number}
 use Rattle.history.proofs.Splits.{last_push, accepted_more, accepted_new, accepted_cases, accepted_none, stands_more, stands_new, stands_cases, stands_none}
 use Rattle.history.proofs.Grades.{grade_in, GradeIn, grade_in_is, grade_in_one, least_below, least_reached, least_passed}
-use Rattle.history.proofs.Lists.{beginning, ending, in_placed_new, in_placed_old, in_placed_cases, placed_ascends, numbered_not, placed_distinct, in_without, without_in, without_distinct}
+use Rattle.history.proofs.Lists.{section_place, target_stands_at, in_placed_new, in_placed_old, in_placed_cases, placed_ascends, placed_distinct, in_without, without_in, without_distinct}
 
-pub tracks_start : (eps room space : ℕ) → Tracks eps [] (start room space)
-tracks_start eps room space = record {
+pub tracks_start : (sheet : Values) (capacity : Capacity) → Tracks sheet [] (start (empty_track capacity))
+tracks_start sheet capacity = record {
   phase = refl;
-  section_in = λ x a. absurd (accepted_none _ a);
+  section_listed = λ x a. absurd (accepted_none _ a);
   section_stands = λ x i. absurd i;
   ascends = tt;
   fit = λ x i. absurd i;
-  target_in = λ t a. absurd (stands_none eps t a);
+  target_listed = λ t a. absurd (stands_none sheet t a);
   target_stands = λ t i. absurd i;
   distinct = tt;
 }
 
 -- The grade ahead, by the state's sections.
 
-module _ (eps : ℕ) (h : History) (s : State) (k : Tracks eps h s) where
-  to_list : (p : ℕ) (g : ℤ) → GradeAt h p g → GradeIn steepest s.sections p g
-  to_list p g (inl w) = inl (w.0, (k.section_in w.0 w.1.stands, w.1.begun, λ y i l. w.1.last y (k.section_stands y i) l), w.2)
+module _ (sheet : Values) (h : History) (s : State) (k : Tracks sheet h s) where
+  to_list : (p : ℕ) (g : ℤ) → GradeAt h p g → GradeIn steepest s.track.sections.items p g
+  to_list p g (inl w) = inl (w.0, (k.section_listed w.0 w.1.stands, w.1.begun, λ y i l. w.1.last y (k.section_stands y i) l), w.2)
   to_list p g (inr w) = inr ((λ y i. w.0 y (k.section_stands y i)), w.1)
 
-  from_list : (p : ℕ) (g : ℤ) → GradeIn steepest s.sections p g → GradeAt h p g
-  from_list p g (inl w) = inl (w.0, record { stands = grind arith; begun = w.1.1; last = λ y a l. w.1.2 y (k.section_in y a) l }, w.2)
-  from_list p g (inr w) = inr ((λ y a. w.0 y (k.section_in y a)), w.1)
+  from_list : (p : ℕ) (g : ℤ) → GradeIn steepest s.track.sections.items p g → GradeAt h p g
+  from_list p g (inl w) = inl (w.0, record { stands = grind arith; begun = w.1.1; last = λ y a l. w.1.2 y (k.section_listed y a) l }, w.2)
+  from_list p g (inr w) = inr ((λ y a. w.0 y (k.section_listed y a)), w.1)
 
-  at_is : (p : ℕ) (g : ℤ) → grade_in steepest s.sections p ≡ g → GradeAt h p g
-  at_is p g e = from_list p g (subst (λ (g : ℤ). GradeIn steepest s.sections p g) e (grade_in_is steepest s.sections p k.ascends))
+  at_is : (p : ℕ) (g : ℤ) → grade_in steepest s.track.sections.items p ≡ g → GradeAt h p g
+  at_is p g e = from_list p g (subst (λ (g : ℤ). GradeIn steepest s.track.sections.items p g) e (grade_in_is steepest s.track.sections.items p k.ascends))
 
-  at_one : (p : ℕ) (g : ℤ) → GradeAt h p g → grade_in steepest s.sections p ≡ g
-  at_one p g a = grade_in_one steepest s.sections p _ g k.ascends (grade_in_is steepest s.sections p k.ascends) (to_list p g a)
+  at_one : (p : ℕ) (g : ℤ) → GradeAt h p g → grade_in steepest s.track.sections.items p ≡ g
+  at_one p g a = grade_in_one steepest s.track.sections.items p _ g k.ascends (grade_in_is steepest s.track.sections.items p k.ascends) (to_list p g a)
 
-  pub ahead_is : (front place : ℕ) → GradeAhead h front place (least_grade steepest front place s.sections)
+  pub ahead_is : (front place : ℕ) → GradeAhead h front place (least_grade steepest front place s.track.sections.items)
   ahead_is front place =
       elim (cases_lt place front) [
-        | inl passed ↦ inr (passed, at_is front _ (sym (least_passed steepest front place s.sections passed)))
+        | inl passed ↦ inr (passed, at_is front _ (sym (least_passed steepest front place s.track.sections.items passed)))
         | inr ahead ↦
-            let r = least_reached steepest front place s.sections k.ascends ahead in
+            let r = least_reached steepest front place s.track.sections.items k.ascends ahead in
             inl (
               ahead,
               record {
                 somewhere = (r.0, r.1, r.2, at_is r.0 _ r.3);
-                least = λ p g l m a. subst (λ (g : ℤ). least_grade steepest front place s.sections ≤ℤ g) (at_one p g a) (least_below steepest front place s.sections k.ascends p l m);
+                least = λ p g l m a. subst (λ (g : ℤ). least_grade steepest front place s.track.sections.items ≤ℤ g) (at_one p g a) (least_below steepest front place s.track.sections.items k.ascends p l m);
               },
             )
       ]
 
-  pub ahead_one : (front place : ℕ) (g : ℤ) → GradeAhead h front place g → g ≡ least_grade steepest front place s.sections
+  pub ahead_one : (front place : ℕ) (g : ℤ) → GradeAhead h front place g → g ≡ least_grade steepest front place s.track.sections.items
   ahead_one front place g (inl w) =
-      let r = least_reached steepest front place s.sections k.ascends w.0 in
+      let r = least_reached steepest front place s.track.sections.items k.ascends w.0 in
       let p = w.1.somewhere in
-      let low : least_grade steepest front place s.sections ≤ℤ g = subst (λ (g : ℤ). least_grade steepest front place s.sections ≤ℤ g) (at_one p.0 g p.3) (least_below steepest front place s.sections k.ascends p.0 p.1 p.2) in
-      let high : g ≤ℤ least_grade steepest front place s.sections = w.1.least r.0 _ r.1 r.2 (at_is r.0 _ r.3) in
+      let low : least_grade steepest front place s.track.sections.items ≤ℤ g = subst (λ (g : ℤ). least_grade steepest front place s.track.sections.items ≤ℤ g) (at_one p.0 g p.3) (least_below steepest front place s.track.sections.items k.ascends p.0 p.1 p.2) in
+      let high : g ≤ℤ least_grade steepest front place s.track.sections.items = w.1.least r.0 _ r.1 r.2 (at_is r.0 _ r.3) in
       omega (arith, ints)
-  ahead_one front place g (inr w) = sym (at_one front g w.1) ∙ sym (least_passed steepest front place s.sections w.0)
+  ahead_one front place g (inr w) = sym (at_one front g w.1) ∙ sym (least_passed steepest front place s.track.sections.items w.0)
 
 -- The numbers of a call.
 
@@ -150,121 +153,121 @@ groundless [] e = tt
 groundless (g ∷ gs) e = elim g.holds as (λ v. cond v (Some g.refusal) (first gs) ≡ None → (v ≡ false) × Groundless gs)
     [ true ↦ λ k. grind arith | false ↦ λ k. (refl, groundless gs k) ] e
 
-module _ (eps : ℕ) (h : History) (s : State) (k : Tracks eps h s) where
+module _ (sheet : Values) (h : History) (s : State) (k : Tracks sheet h s) where
   -- an entry that adds nothing and takes nothing out, with the phase after it
-  tracks_same : (e : Record) (s' : State) → s'.sections ≡ s.sections → s'.targets ≡ s.targets → s'.phase ≡ e.phase →
+  tracks_same : (e : Record) (s' : State) → s'.track.sections.items ≡ s.track.sections.items → s'.track.targets.items ≡ s.track.targets.items → s'.phase ≡ e.phase →
       ((q : ℕ) (g : ℤ) → Accepts e (slope q g) → ⊥) →
       ((n q d v : ℕ) → Accepts e (announce n q d v) → ⊥) →
       ((n : ℕ) → Accepts e (withdraw n) → ⊥) →
-      Tracks eps (h ++ e ∷ []) s'
+      Tracks sheet (h ++ e ∷ []) s'
   tracks_same e s' xs ts p never-slope never-announce never-withdraw = record {
     phase = last_push Free h e ∙ sym p;
-    section_in = λ x a. subst (In x) (sym xs) (elim (accepted_cases h _ e a) [ inl b ↦ k.section_in x b | inr b ↦ absurd (never-slope _ _ b) ]);
+    section_listed = λ x a. subst (In x) (sym xs) (elim (accepted_cases h _ e a) [ inl b ↦ k.section_listed x b | inr b ↦ absurd (never-slope _ _ b) ]);
     section_stands = λ x i. accepted_more e (k.section_stands x (subst (In x) xs i));
     ascends = rw xs k.ascends;
     fit = λ x i. k.fit x (subst (In x) xs i);
-    target_in = λ t a. subst (In t) (sym ts) (elim (stands_cases eps h t e a) [ inl b ↦ k.target_in t b.0 | inr b ↦ absurd (never-announce _ _ _ _ b.2) ]);
-    target_stands = λ t i. stands_more eps h t e (k.target_stands t (subst (In t) ts i)) (λ b. never-withdraw _ b);
+    target_listed = λ t a. subst (In t) (sym ts) (elim (stands_cases sheet h t e a) [ inl b ↦ k.target_listed t b.0 | inr b ↦ absurd (never-announce _ _ _ _ b.2) ]);
+    target_stands = λ t i. stands_more sheet h t e (k.target_stands t (subst (In t) ts i)) (λ b. never-withdraw _ b);
     distinct = rw ts k.distinct;
   }
 
-module _ (eps : ℕ) (m : Meaning) (h : History) (s : State) (k : Tracks eps h s) where
-  tracks_refused : (c : Call) (r : Refusal) → Tracks eps (h ++ record { call = c; answer = Err r; phase = s.phase } ∷ []) s
-  tracks_refused c r = tracks_same eps h s k (record { call = c; answer = Err r; phase = s.phase }) s refl refl refl (λ q g a. a.1) (λ n q d v a. a.1) (λ n a. a.1)
+module _ (sheet : Values) (m : Meaning) (h : History) (s : State) (k : Tracks sheet h s) where
+  tracks_refused : (c : Call) (r : Refusal) → Tracks sheet (h ++ record { call = c; answer = Err r; phase = s.phase } ∷ []) s
+  tracks_refused c r = tracks_same sheet h s k (record { call = c; answer = Err r; phase = s.phase }) s refl refl refl (λ q g a. a.1) (λ n q d v a. a.1) (λ n a. a.1)
 
-  tracks_slope : (p : Distance) (g : Grade) → unfit_grade g.thousandths ≡ false → begins_at p.millimetres s.sections ≡ false →
-      Tracks eps (h ++ entry_of (Slope p g) (does eps m s (Slope p g)) ∷ []) (does eps m s (Slope p g)).state
-  tracks_slope p g fine free =
-      let e : Record = entry_of (Slope p g) (does eps m s (Slope p g)) in
+  tracks_slope : (p : Distance) (g : Grade) → is_unfit g.thousandths ≡ false → begins_at p.millimetres s.track.sections.items ≡ false →
+      Tracks sheet (h ++ entry_of (Slope p g) (does sheet m s (Slope p g)) ∷ []) (does sheet m s (Slope p g)).state
+  tracks_slope p g fit free =
+      let e : Record = entry_of (Slope p g) (does sheet m s (Slope p g)) in
       let new : Section = section p.millimetres g.thousandths in
       record {
         phase = last_push Free h e;
-        section_in = λ x a. elim (accepted_cases h _ e a) [
-          | inl b ↦ in_placed_old beginning new s.sections x (k.section_in x b)
-          | inr b ↦ subst (λ (y : Section). In y (placed_in beginning new s.sections)) (same_section _ x.place _ x.grade (ap slope_place b.0) (ap slope_grade b.0)) (in_placed_new beginning new s.sections)
+        section_listed = λ x a. elim (accepted_cases h _ e a) [
+          | inl b ↦ in_placed_old section_place new s.track.sections.items x (k.section_listed x b)
+          | inr b ↦ subst (λ (y : Section). In y (placed_in section_place new s.track.sections.items)) (same_section _ x.place _ x.grade (ap slope_place b.0) (ap slope_grade b.0)) (in_placed_new section_place new s.track.sections.items)
         ];
-        section_stands = λ x i. elim (in_placed_cases beginning new s.sections x i) [
+        section_stands = λ x i. elim (in_placed_cases section_place new s.track.sections.items x i) [
           | inl same ↦ subst (λ (y : Section). SectionStands (h ++ e ∷ []) y) (sym same) (accepted_new h e (refl, tt))
           | inr j ↦ accepted_more e (k.section_stands x j)
         ];
-        ascends = placed_ascends new s.sections k.ascends free;
-        fit = λ x i. elim (in_placed_cases beginning new s.sections x i) [
-          | inl same ↦ subst (λ (y : Section). unfit_grade y.grade ≡ false) (sym same) fine
+        ascends = placed_ascends new s.track.sections.items k.ascends free;
+        fit = λ x i. elim (in_placed_cases section_place new s.track.sections.items x i) [
+          | inl same ↦ subst (λ (y : Section). is_unfit y.grade ≡ false) (sym same) fit
           | inr j ↦ k.fit x j
         ];
-        target_in = λ t a. elim (stands_cases eps h t e a) [
-          | inl b ↦ k.target_in t b.0
+        target_listed = λ t a. elim (stands_cases sheet h t e a) [
+          | inl b ↦ k.target_listed t b.0
           | inr b ↦ grind arith
         ];
-        target_stands = λ t i. stands_more eps h t e (k.target_stands t i) (λ b. grind arith);
+        target_stands = λ t i. stands_more sheet h t e (k.target_stands t i) (λ b. grind arith);
         distinct = k.distinct;
       }
 
-  tracks_announce : (n : ℕ) (p d : Distance) (v : Speed) → numbered n s.targets ≡ false →
-      Tracks eps (h ++ entry_of (Announce n p d v) (does eps m s (Announce n p d v)) ∷ []) (does eps m s (Announce n p d v)).state
+  tracks_announce : (n : ℕ) (p d : Distance) (v : Speed) → has_number n s.track.targets.items ≡ false →
+      Tracks sheet (h ++ entry_of (Announce n p d v) (does sheet m s (Announce n p d v)) ∷ []) (does sheet m s (Announce n p d v)).state
   tracks_announce n p d v free =
-      let e : Record = entry_of (Announce n p d v) (does eps m s (Announce n p d v)) in
-      let new : Target = target n (target_place eps p.millimetres d.millimetres) v.tenths in
+      let e : Record = entry_of (Announce n p d v) (does sheet m s (Announce n p d v)) in
+      let new : Target = target n (target_place sheet p.millimetres d.millimetres) v.tenths in
       record {
         phase = last_push Free h e;
-        section_in = λ x a. elim (accepted_cases h _ e a) [
-          | inl b ↦ k.section_in x b
+        section_listed = λ x a. elim (accepted_cases h _ e a) [
+          | inl b ↦ k.section_listed x b
           | inr b ↦ grind arith
         ];
         section_stands = λ x i. accepted_more e (k.section_stands x i);
         ascends = k.ascends;
         fit = k.fit;
-        target_in = λ t a. elim (stands_cases eps h t e a) [
-          | inl b ↦ in_placed_old ending new s.targets t (k.target_in t b.0)
+        target_listed = λ t a. elim (stands_cases sheet h t e a) [
+          | inl b ↦ in_placed_old target_stands_at new s.track.targets.items t (k.target_listed t b.0)
           | inr b ↦
               let c : Announce n p d v ≡ announce t.number b.0 b.1 t.speed = b.2.0 in
-              let place : target_place eps p.millimetres d.millimetres ≡ t.place =
-              ap (λ (x : ℕ). target_place eps x d.millimetres) (ap point_in c) ∙ (ap (λ (x : ℕ). target_place eps b.0 x) (ap distance_in c) ∙ sym b.3) in
-              subst (λ (u : Target). In u (placed_in ending new s.targets)) (same_target n t.number _ t.place _ t.speed (ap number_in c) place (ap speed_in c)) (in_placed_new ending new s.targets)
+              let place : target_place sheet p.millimetres d.millimetres ≡ t.place =
+              ap (λ (x : ℕ). target_place sheet x d.millimetres) (ap point_in c) ∙ (ap (λ (x : ℕ). target_place sheet b.0 x) (ap distance_in c) ∙ sym b.3) in
+              subst (λ (u : Target). In u (placed_in target_stands_at new s.track.targets.items)) (same_target n t.number _ t.place _ t.speed (ap number_in c) place (ap speed_in c)) (in_placed_new target_stands_at new s.track.targets.items)
         ];
-        target_stands = λ t i. elim (in_placed_cases ending new s.targets t i) [
-          | inl same ↦ subst (λ (u : Target). TargetStands eps (h ++ e ∷ []) u) (sym same) (stands_new eps h new e p.millimetres d.millimetres (refl, tt) refl)
-          | inr j ↦ stands_more eps h t e (k.target_stands t j) (λ b. grind arith)
+        target_stands = λ t i. elim (in_placed_cases target_stands_at new s.track.targets.items t i) [
+          | inl same ↦ subst (λ (u : Target). TargetStands sheet (h ++ e ∷ []) u) (sym same) (stands_new sheet h new e p.millimetres d.millimetres (refl, tt) refl)
+          | inr j ↦ stands_more sheet h t e (k.target_stands t j) (λ b. grind arith)
         ];
-        distinct = placed_distinct new s.targets k.distinct (numbered_not n s.targets free);
+        distinct = placed_distinct new s.track.targets.items k.distinct (no_number n s.track.targets.items free);
       }
 
-  tracks_withdraw : (n : ℕ) → Tracks eps (h ++ entry_of (Withdraw n) (does eps m s (Withdraw n)) ∷ []) (does eps m s (Withdraw n)).state
+  tracks_withdraw : (n : ℕ) → Tracks sheet (h ++ entry_of (Withdraw n) (does sheet m s (Withdraw n)) ∷ []) (does sheet m s (Withdraw n)).state
   tracks_withdraw n =
-      let e : Record = entry_of (Withdraw n) (does eps m s (Withdraw n)) in
+      let e : Record = entry_of (Withdraw n) (does sheet m s (Withdraw n)) in
       record {
         phase = last_push Free h e;
-        section_in = λ x a. elim (accepted_cases h _ e a) [
-          | inl b ↦ k.section_in x b
+        section_listed = λ x a. elim (accepted_cases h _ e a) [
+          | inl b ↦ k.section_listed x b
           | inr b ↦ grind arith
         ];
         section_stands = λ x i. accepted_more e (k.section_stands x i);
         ascends = k.ascends;
         fit = k.fit;
-        target_in = λ t a. elim (stands_cases eps h t e a) [
-          | inl b ↦ in_without n s.targets t (k.target_in t b.0) (λ q. b.1 (ap withdraw (sym q), tt))
+        target_listed = λ t a. elim (stands_cases sheet h t e a) [
+          | inl b ↦ in_without n s.track.targets.items t (k.target_listed t b.0) (λ q. b.1 (ap withdraw (sym q), tt))
           | inr b ↦ grind arith
         ];
-        target_stands = λ t i. let w = without_in n s.targets k.distinct t i in
-            stands_more eps h t e (k.target_stands t w.0) (λ b. w.1 (sym (ap number_in b.0)));
-        distinct = without_distinct n s.targets k.distinct;
+        target_stands = λ t i. let w = without_in n s.track.targets.items k.distinct t i in
+            stands_more sheet h t e (k.target_stands t w.0) (λ b. w.1 (sym (ap number_in b.0)));
+        distinct = without_distinct n s.track.targets.items k.distinct;
       }
 
-  tracks_does : (c : Call) → first (grounds m s c) ≡ None → Tracks eps (h ++ entry_of c (does eps m s c) ∷ []) (does eps m s c).state
+  tracks_does : (c : Call) → first (grounds m s c) ≡ None → Tracks sheet (h ++ entry_of c (does sheet m s c) ∷ []) (does sheet m s c).state
   tracks_does (Slope p g) none = let w = groundless (grounds m s (Slope p g)) none in tracks_slope p g w.1.0 w.1.1.0
   tracks_does (Announce n p d v) none = tracks_announce n p d v (groundless (grounds m s (Announce n p d v)) none).1.1.0
   tracks_does (Withdraw n) none = tracks_withdraw n
-  tracks_does (Sample p v) none = tracks_same eps h s k _ _ refl refl refl
+  tracks_does (Sample p v) none = tracks_same sheet h s k _ _ refl refl refl
       (λ q g a. grind arith) (λ n q d w a. grind arith) (λ n a. grind arith)
-  tracks_does Release none = tracks_same eps h s k _ _ refl refl refl
+  tracks_does Release none = tracks_same sheet h s k _ _ refl refl refl
       (λ q g a. grind arith) (λ n q d w a. grind arith) (λ n a. grind arith)
 
-  pub tracks_step : (c : Call) → Tracks eps (h ++ entry_of c (step eps m s c) ∷ []) (step eps m s c).state
-  tracks_step c = elim (first (grounds m s c)) as (λ o. first (grounds m s c) ≡ o → Tracks eps (h ++ entry_of c (decide o s (does eps m s c)) ∷ []) (decide o s (does eps m s c)).state)
+  pub tracks_step : (c : Call) → Tracks sheet (h ++ entry_of c (step sheet m s c) ∷ []) (step sheet m s c).state
+  tracks_step c = elim (first (grounds m s c)) as (λ o. first (grounds m s c) ≡ o → Tracks sheet (h ++ entry_of c (decide o s (does sheet m s c)) ∷ []) (decide o s (does sheet m s c)).state)
       [ None ↦ λ e. tracks_does c e | Some r ↦ λ e. tracks_refused c r ] refl
 
 -- Any sample leaves what stands as it is, with its phase.
-pub tracks_sampled : (eps : ℕ) (h : History) (s : State) → Tracks eps h s → (front speed : ℕ) (p : Phase) (a : Answer) →
-    Tracks eps (h ++ record { call = sample front speed; answer = a; phase = p } ∷ []) (record { sections = s.sections; section_room = s.section_room; targets = s.targets; target_room = s.target_room; phase = p; clear = false })
-tracks_sampled eps h s k front speed p a = tracks_same eps h s k _ _ refl refl refl
+pub tracks_sampled : (sheet : Values) (h : History) (s : State) → Tracks sheet h s → (front speed : ℕ) (p : Phase) (a : Answer) →
+    Tracks sheet (h ++ record { call = sample front speed; answer = a; phase = p } ∷ []) (record { track = s.track; phase = p; clear = false })
+tracks_sampled sheet h s k front speed p a = tracks_same sheet h s k _ _ refl refl refl
     (λ q g a. grind arith) (λ n q d w a. grind arith) (λ n a. grind arith)

@@ -2,18 +2,19 @@
 use Rattle.std.proofs.lemmas.Bool.Decides.{nat_tests}
 use Rattle.std.proofs.Common.{rules}
 use Rattle.std.proofs.Common.{◌≡◌, ℕ, ◌+◌, ◌*◌, ◌<◌, ◌≤◌, max, true, false, cond, leb, List, [], ◌∷◌, refl, ap, inl, inr, mul-le-mul_right, arith}
-use Rattle.std.proofs.lemmas.Bool.{cases_lt}
+use Rattle.std.proofs.lemmas.Bool.{cases_lt, cases_Bool}
 use Rattle.place_list.specs.Membership.{In}
 use Rattle.braking.specs.Laws.{Sound}
-use Rattle.braking.specs.Meaning.{Meaning, Verdict, weak, strong}
-use Rattle.calls.specs.Zones.{zone_number, larger_zone}
+use Rattle.braking.specs.Meaning.{Meaning, Verdict, Binds, binds, weak, strong}
+use Rattle.calls.specs.Zones.{zone_number, max_zone}
 use Rattle.calls.specs.declared.phase.Phase.{Phase}
 use Rattle.calls.specs.declared.phase.Phase.TheVariants.{Emergency}
 use Rattle.calls.specs.declared.zone.Zone.{Zone}
 use Rattle.calls.specs.declared.zone.Zone.TheVariants as zones
 use Rattle.history.specs.History.{Section, Target}
 use Rattle.history.specs.Lines.{MustBrake, MayBrake, IsClear}
-use Rattle.history.specs.Step.{zone_of, question, target_zone, largest_zone, unfit_grade, next, is_clear}
+use Rattle.history.specs.Zones.{zone_of, question, target_zone, largest_zone, is_clear}
+use Rattle.history.specs.Step.{next_phase}
 
 -- o / u reaches the place, and c covers o / u.
 reach : (place front c u o : ℕ) → 0 < u → place * u ≤ front * u + o → o ≤ c * u → place ≤ front + c
@@ -69,8 +70,8 @@ clear_clear (strong e c) front place s h =
           absurd (some h)
     ]
 
-larger_number : (z w : Zone) → zone_number (larger_zone z w) ≡ max (zone_number z) (zone_number w)
-larger_number z w = grind arith
+max_number : (z w : Zone) → zone_number (max_zone z w) ≡ max (zone_number z) (zone_number w)
+max_number z w = grind arith
 
 at_least_control : (z : Zone) → 3 ≤ zone_number z → z ≡ zones.Control
 at_least_control z l = grind arith
@@ -79,15 +80,15 @@ at_most_clear : (z : Zone) → zone_number z ≤ 0 → z ≡ zones.Clear
 at_most_clear z l = grind arith
 
 module _ (m : Meaning) (xs : List Section) (front v : ℕ) where
-  -- a binding target with a fit grade has the zone of its verdict
-  pub binding_zone : (t : Target) → t.speed < v → unfit_grade (question xs front v t).grade ≡ false → target_zone m xs front v t ≡ zone_of (m.verdict (question xs front v t)) front t.place
-  binding_zone t l fit = grind arith
+  -- a binding target has the zone of its verdict
+  pub binding_zone : (t : Target) → Binds m (question xs front v t) → target_zone m xs front v t ≡ zone_of (m.verdict (question xs front v t)) front t.place
+  binding_zone t b = grind arith
 
   most : (ts : List Target) (t : Target) → In t ts → zone_number (target_zone m xs front v t) ≤ zone_number (largest_zone m xs front v ts)
   most [] t i = absurd i
   most (u ∷ us) t (inl e) = search rules
   most (u ∷ us) t (inr i) =
-      omega (arith, most us t i, larger_number (target_zone m xs front v u) (largest_zone m xs front v us))
+      omega (arith, most us t i, max_number (target_zone m xs front v u) (largest_zone m xs front v us))
 
   -- one in control makes the largest so
   pub one_control : (ts : List Target) (t : Target) → In t ts → target_zone m xs front v t ≡ zones.Control → largest_zone m xs front v ts ≡ zones.Control
@@ -98,25 +99,25 @@ module _ (m : Meaning) (xs : List Section) (front v : ℕ) where
   all_clear ts t i e = let n : zone_number (largest_zone m xs front v ts) ≡ 0 = ap zone_number e in at_most_clear _ (omega (arith, most ts t i))
 
   -- where the largest is control, some binding target's is
-  pub some_control : (ts : List Target) → largest_zone m xs front v ts ≡ zones.Control → (t : Target) × In t ts × (t.speed < v) × (target_zone m xs front v t ≡ zones.Control)
+  pub some_control : (ts : List Target) → largest_zone m xs front v ts ≡ zones.Control → (t : Target) × In t ts × Binds m (question xs front v t) × (target_zone m xs front v t ≡ zones.Control)
   some_control [] e = grind arith
   some_control (u ∷ us) e =
       let n : max (zone_number (target_zone m xs front v u)) (zone_number (largest_zone m xs front v us)) ≡ 3 = grind arith in
       elim (cases_lt (zone_number (largest_zone m xs front v us)) 3) [
         | inl low ↦
             let here : target_zone m xs front v u ≡ zones.Control = at_least_control _ (omega arith) in
-            elim (cases_lt u.speed v) [
-              | inl binds ↦ (u, inl refl, binds, here)
+            elim (cases_Bool (binds m (question xs front v u))) [
+              | inl binding ↦ (u, inl refl, binding, here)
               | inr free ↦ grind arith
             ]
         | inr high ↦ let w = some_control us (at_least_control _ high) in (w.0, inr w.1, w.2, w.3)
       ]
 
 -- The phase after a sample.
-pub next_control : (p : Phase) (z : Zone) → z ≡ zones.Control → next p z ≡ Emergency
+pub next_control : (p : Phase) (z : Zone) → z ≡ zones.Control → next_phase p z ≡ Emergency
 next_control p z e = grind arith
 
-pub next_came : (p : Phase) (z : Zone) → (p ≡ Emergency → ⊥) → next p z ≡ Emergency → z ≡ zones.Control
+pub next_came : (p : Phase) (z : Zone) → (p ≡ Emergency → ⊥) → next_phase p z ≡ Emergency → z ≡ zones.Control
 next_came p z n e = grind arith
 
 pub clear_is : (z : Zone) → is_clear z ≡ true → z ≡ zones.Clear

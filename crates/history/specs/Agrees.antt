@@ -1,38 +1,37 @@
--- What a state has to do with the past: what a step needs to know, and keeps.
-use Rattle.std.specs.Prelude.{◌≡◌, ℕ, ◌<◌, true, false, List, [], ◌∷◌, ◌≢◌}
+-- What a mission with its lists has to do with a history: it holds of the empty history at the opening, and every call keeps it.
+use Rattle.std.specs.Prelude.{◌≡◌, ℕ, true, Some, Ok}
 use Rattle.place_list.specs.Membership.{In}
+use Rattle.sheet.specs.declared.values.Values.{Values}
 use Rattle.braking.specs.Meaning.{Meaning}
 use Rattle.calls.specs.declared.phase.Phase.TheVariants.{Free}
-use Rattle.history.specs.History.{History, Section, Target, SectionStands, TargetStands}
-use Rattle.history.specs.Lines.{last_phase, LastSampleClear}
-use Rattle.history.specs.Step.{State, unfit_grade}
+use Rattle.calls.specs.declared.record.Record.{Record}
+use Rattle.calls.specs.declared.zone.Zone.TheVariants.{Clear}
+use Rattle.history.specs.History.{History, Section, Target, SectionStands, TargetStands, sample}
+use Rattle.history.specs.Lines.{HasOneGrade, KeepsTheLines, LastAccepted, LastSampleClear, last_phase}
+use Rattle.history.specs.State.{State}
 
--- Each section begins further on than the one before it, the first after p.
-abbrev pub Above : ℕ → List Section → Type 0
-Above p [] = Unit {0}
-Above p (x ∷ xs) = (p < x.place) × Above x.place xs
+-- The last accepted entry of the history is a sample that answered zone 0.
+pub record LastAnsweredClear (h : History) : Type 0 where
+  pub before : History
+  pub entry : Record
+  pub last : LastAccepted h before entry
+  pub front : ℕ
+  pub speed : ℕ
+  pub sampled : entry.call ≡ sample front speed
+  pub answered : entry.answer ≡ Ok (Some Clear)
 
-abbrev pub Ascends : List Section → Type 0
-Ascends [] = Unit {0}
-Ascends (x ∷ xs) = Above x.place xs
-
--- No two targets have the same number.
-abbrev pub Distinct : List Target → Type 0
-Distinct [] = Unit {0}
-Distinct (t ∷ ts) = ((u : Target) → In u ts → u.number ≢ t.number) × Distinct ts
-
--- The state has the last phase and exactly the sections and targets that stand.
-pub record Tracks (eps : ℕ) (h : History) (s : State) : Type 0 where
+pub record Agrees (sheet : Values) (m : Meaning) (h : History) (s : State) : Type 0 where
+  pub lines : KeepsTheLines sheet m h
+  -- the history's last phase is the mission's
   pub phase : last_phase Free h ≡ s.phase
-  pub section_in : (x : Section) → SectionStands h x → In x s.sections
-  pub section_stands : (x : Section) → In x s.sections → SectionStands h x
-  pub ascends : Ascends s.sections
-  pub fit : (x : Section) → In x s.sections → unfit_grade x.grade ≡ false
-  pub target_in : (t : Target) → TargetStands eps h t → In t s.targets
-  pub target_stands : (t : Target) → In t s.targets → TargetStands eps h t
-  pub distinct : Distinct s.targets
-
--- And where it says clear, the last accepted call is a sample that was.
-pub record Agrees (eps : ℕ) (m : Meaning) (h : History) (s : State) : Type 0 where
-  pub tracks : Tracks eps h s
-  pub known : s.clear ≡ true → LastSampleClear eps m h
+  -- exactly what stands is in the lists
+  pub section_listed : (x : Section) → SectionStands h x → In x s.track.sections.items
+  pub section_stands : (x : Section) → In x s.track.sections.items → SectionStands h x
+  pub target_listed : (t : Target) → TargetStands sheet h t → In t s.track.targets.items
+  pub target_stands : (t : Target) → In t s.track.targets.items → TargetStands sheet h t
+  pub one_grade : HasOneGrade h
+  -- the mission remembers a clear sample exactly where the last accepted call was one
+  pub remembered : LastAnsweredClear h → s.clear ≡ true
+  pub answered : s.clear ≡ true → LastAnsweredClear h
+  -- and its exact distances then justify a release
+  pub justified : s.clear ≡ true → LastSampleClear sheet m h

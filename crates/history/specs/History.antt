@@ -1,7 +1,9 @@
--- What was called and answered, and what stands by it: by the entries alone, with no list of the program's.
-use Rattle.std.specs.Prelude.{◌≡◌, ℕ, ◌+◌, ◌-◌, ◌*◌, ◌<◌, ◌≤◌, ◌⊎◌, List, ◌∷◌, ◌++◌, ℤ, negsuc, ◌≤ℤ◌, Ok, Err}
+-- What was called and answered, and what stands by it: by the entries alone, with no list of the mission's.
+use Rattle.std.specs.Prelude.{◌≡◌, ℕ, ◌+◌, ◌-◌, ◌*◌, ◌<◌, ◌≤◌, ◌⊎◌, List, ◌∷◌, ◌++◌, ℤ, ◌≤ℤ◌, Ok, Err}
 use Rattle.units.specs.Rounding.{ceiling}
-use Rattle.braking.specs.Meaning.{Question, Binds}
+use Rattle.units.specs.declared.limits.TheConstants.{STEEPEST_FALL}
+use Rattle.sheet.specs.declared.values.Values.{Values}
+use Rattle.braking.specs.Meaning.{Meaning, Question, Binds}
 use Rattle.calls.specs.Answers.{Answer}
 use Rattle.calls.specs.declared.call.Call.{Call}
 use Rattle.calls.specs.declared.call.Call.TheVariants.{Slope, Announce, Withdraw, Sample, Release}
@@ -59,12 +61,12 @@ pub record Target : Type 0 where
 abbrev pub SectionStands : History → Section → Type 0
 SectionStands h x = AcceptedIn h (slope x.place x.grade)
 
--- Where a target stands that was announced at a distance from a point: eps percent of the distance nearer, that cut rounded up.
-abbrev pub target_place : (eps point distance : ℕ) → ℕ
-target_place eps point distance = (point + distance) - ceiling (distance * eps) 100
+-- Where a target stands that was announced at a distance from a point: the sheet's eps percent of the distance nearer, that cut rounded up.
+abbrev pub target_place : (sheet : Values) (point distance : ℕ) → ℕ
+target_place sheet point distance = (point + distance) - ceiling (distance * sheet.eps) 100
 
 -- A target stands if an accepted call announced it and no call accepted after that withdrew its number.
-pub record TargetStands (eps : ℕ) (h : History) (t : Target) : Type 0 where
+pub record TargetStands (sheet : Values) (h : History) (t : Target) : Type 0 where
   pub before : History
   pub entry : Record
   pub after : History
@@ -72,12 +74,12 @@ pub record TargetStands (eps : ℕ) (h : History) (t : Target) : Type 0 where
   pub distance : ℕ
   pub split : h ≡ before ++ entry ∷ after
   pub announced : Accepts entry (announce t.number point distance t.speed)
-  pub placed : t.place ≡ target_place eps point distance
+  pub placed : t.place ≡ target_place sheet point distance
   pub kept : AcceptedIn after (withdraw t.number) → ⊥
 
 -- The grade before the first section: the steepest fall.
 abbrev pub steepest : ℤ
-steepest = negsuc 34
+steepest = STEEPEST_FALL.thousandths
 
 -- The section that holds at place p: of those that stand, the one with the greatest place up to p.
 pub record SectionHolds (h : History) (p : ℕ) (x : Section) : Type 0 where
@@ -101,9 +103,9 @@ GradeAhead h front place g =
     ((front ≤ place) × GradeOfStretch h front place g) ⊎ ((place < front) × GradeAt h front g)
 
 -- A target that stands after the history and binds at the sample, with its question there.
-pub record Bound (eps : ℕ) (h : History) (front speed : ℕ) (t : Target) (q : Question) : Type 0 where
-  pub stands : TargetStands eps h t
+pub record Bound (sheet : Values) (m : Meaning) (h : History) (front speed : ℕ) (t : Target) (q : Question) : Type 0 where
+  pub stands : TargetStands sheet h t
   pub asks_speed : q.speed ≡ speed
   pub asks_target : q.target ≡ t.speed
   pub asks_grade : GradeAhead h front t.place q.grade
-  pub binds : Binds q
+  pub binds : Binds m q

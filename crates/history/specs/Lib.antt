@@ -1,6 +1,9 @@
 pub mod History
 pub mod Lines
+pub mod State
+pub mod Zones
 pub mod Step
 pub mod Runs
 pub mod Agrees
 pub mod Theorem
+pub mod Examples

@@ -1,5 +1,6 @@
 -- The three lines that every history of a mission keeps.
 use Rattle.std.specs.Prelude.{◌≡◌, ℕ, ◌*◌, ◌<◌, ◌≤◌, ◌⊎◌, [], ◌∷◌, ◌++◌, ℤ}
+use Rattle.sheet.specs.declared.values.Values.{Values}
 use Rattle.units.specs.Fractions.{Fraction, whole, ◌≼◌, ◌≺◌, ◌⊕◌, ◌⊗◌}
 use Rattle.braking.specs.Meaning.{Meaning, Question, Verdict, weak, strong}
 use Rattle.calls.specs.declared.phase.Phase.{Phase}
@@ -51,52 +52,58 @@ abbrev pub On : Record → Type 0
 On e = e.phase ≡ Emergency
 
 -- After an accepted sample above the top speed the brake is on; so it is after one up to the top with a binding target for which it must.
-pub record BrakesInTime (eps : ℕ) (m : Meaning) (before : History) (e : Record) : Type 0 where
+pub record BrakesInTime (sheet : Values) (m : Meaning) (before : History) (e : Record) : Type 0 where
   pub too_fast : (front speed : ℕ) → Accepts e (sample front speed) → m.top < speed → On e
   pub too_near : (front speed : ℕ) → Accepts e (sample front speed) → speed ≤ m.top →
-      (t : Target) (q : Question) → Bound eps before front speed t q → MustBrake (m.verdict q) front t.place → On e
+      (t : Target) (q : Question) → Bound sheet m before front speed t q → MustBrake (m.verdict q) front t.place → On e
 
 -- What allows the brake to come on at a sample: above the top, or a binding target that is weak or too near.
-abbrev pub Reason : (eps : ℕ) → Meaning → History → (front speed : ℕ) → Type 0
-Reason eps m before front speed =
+abbrev pub Reason : (sheet : Values) → Meaning → History → (front speed : ℕ) → Type 0
+Reason sheet m before front speed =
     (m.top < speed)
-    ⊎ ((speed ≤ m.top) × ((t : Target) × (q : Question) × Bound eps before front speed t q × MayBrake (m.verdict q) front t.place))
+    ⊎ ((speed ≤ m.top) × ((t : Target) × (q : Question) × Bound sheet m before front speed t q × MayBrake (m.verdict q) front t.place))
 
 -- The brake comes on only in an accepted sample with a reason.
-abbrev pub BrakesForAReason : (eps : ℕ) → Meaning → History → Record → Type 0
-BrakesForAReason eps m before e = (OnAfter before → ⊥) → On e →
-    (front : ℕ) × (speed : ℕ) × Accepts e (sample front speed) × Reason eps m before front speed
+abbrev pub BrakesForAReason : (sheet : Values) → Meaning → History → Record → Type 0
+BrakesForAReason sheet m before e = (OnAfter before → ⊥) → On e →
+    (front : ℕ) × (speed : ℕ) × Accepts e (sample front speed) × Reason sheet m before front speed
 
--- The last accepted call of the history is a sample up to the top speed at which every binding target is clear.
-pub record LastSampleClear (eps : ℕ) (m : Meaning) (h : History) : Type 0 where
-  pub before : History
-  pub entry : Record
+-- The entry is the last accepted one of the history, and this came before it: what came after it was refused.
+pub record LastAccepted (h before : History) (entry : Record) : Type 0 where
   pub after : History
   pub split : h ≡ before ++ entry ∷ after
-  -- what came after it was refused
-  pub last : (b : History) (e : Record) (a : History) → after ≡ b ++ e ∷ a → WasAccepted e.answer → ⊥
+  pub refused : (b : History) (e : Record) (a : History) → after ≡ b ++ e ∷ a → WasAccepted e.answer → ⊥
+
+-- The last accepted call of the history is a sample up to the top speed at which every binding target is clear.
+pub record LastSampleClear (sheet : Values) (m : Meaning) (h : History) : Type 0 where
+  pub before : History
+  pub entry : Record
+  pub last : LastAccepted h before entry
   pub front : ℕ
   pub speed : ℕ
   pub sampled : Accepts entry (sample front speed)
   pub not_too_fast : speed ≤ m.top
   -- of the targets that stood when it was taken
-  pub all_clear : (t : Target) (q : Question) → Bound eps before front speed t q → IsClear (m.verdict q) front t.place
+  pub all_clear : (t : Target) (q : Question) → Bound sheet m before front speed t q → IsClear (m.verdict q) front t.place
 
 -- The brake goes off only by an accepted release after such a sample.
-abbrev pub LetsGoWhenClear : (eps : ℕ) → Meaning → History → Record → Type 0
-LetsGoWhenClear eps m before e = OnAfter before → (On e → ⊥) → Accepts e release × LastSampleClear eps m before
+abbrev pub LetsGoWhenClear : (sheet : Values) → Meaning → History → Record → Type 0
+LetsGoWhenClear sheet m before e = OnAfter before → (On e → ⊥) → Accepts e release × LastSampleClear sheet m before
 
 -- The three lines at one entry, with what came before it.
-pub record Lines (eps : ℕ) (m : Meaning) (before : History) (e : Record) : Type 0 where
-  pub in_time : BrakesInTime eps m before e
-  pub for_a_reason : BrakesForAReason eps m before e
-  pub when_clear : LetsGoWhenClear eps m before e
+pub record Lines (sheet : Values) (m : Meaning) (before : History) (e : Record) : Type 0 where
+  pub in_time : BrakesInTime sheet m before e
+  pub for_a_reason : BrakesForAReason sheet m before e
+  pub when_clear : LetsGoWhenClear sheet m before e
 
 -- A history keeps the three lines at each of its entries.
-abbrev pub KeepsTheLines : (eps : ℕ) → Meaning → History → Type 0
-KeepsTheLines eps m h = (before : History) (e : Record) (after : History) → h ≡ before ++ e ∷ after → Lines eps m before e
+abbrev pub KeepsTheLines : (sheet : Values) → Meaning → History → Type 0
+KeepsTheLines sheet m h = (before : History) (e : Record) (after : History) → h ≡ before ++ e ∷ after → Lines sheet m before e
 
--- At each entry, the history before it gives every stretch ahead one grade: so every binding target has one question, and the lines speak of something.
+-- Every stretch ahead has one grade, so that every binding target has one question.
+abbrev pub HasOneGrade : History → Type 0
+HasOneGrade h = (front place : ℕ) → (g : ℤ) × GradeAhead h front place g × ((k : ℤ) → GradeAhead h front place k → k ≡ g)
+
+-- So it is before each entry: the lines speak of something.
 abbrev pub GivesOneGrade : History → Type 0
-GivesOneGrade h = (before : History) (e : Record) (after : History) → h ≡ before ++ e ∷ after → (front place : ℕ) →
-    (g : ℤ) × GradeAhead before front place g × ((k : ℤ) → GradeAhead before front place k → k ≡ g)
+GivesOneGrade h = (before : History) (e : Record) (after : History) → h ≡ before ++ e ∷ after → HasOneGrade before

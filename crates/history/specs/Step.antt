@@ -1,126 +1,28 @@
 -- The mission's step: what each call asks, answers and does.
-use Rattle.std.specs.Prelude.{ℕ, ◌+◌, ◌-◌, Bool, true, false, cond, not, ◌||◌, List, [], ◌∷◌, ℤ, pos, Some, None, Ok, Err, Option, ◌==◌, int_lt, nat_le, nat_lt}
-use Rattle.std.specs.Int.{int_min}
+use Rattle.std.specs.Prelude.{ℕ, ◌+◌, ◌-◌, Bool, false, cond, not, ◌||◌, List, [], ◌∷◌, ◌++◌, Some, None, Ok, Err, Option, ◌==◌, nat_lt}
 use Rattle.place_list.specs.Insertion.{placed_in}
-use Rattle.braking.specs.Meaning.{Meaning, Question, Verdict, weak, strong}
-use Rattle.calls.specs.Zones.{larger_zone}
+use Rattle.units.specs.declared.limits.TheConstants.{FASTEST, FURTHEST}
+use Rattle.sheet.specs.declared.values.Values.{Values}
+use Rattle.braking.specs.Meaning.{Meaning}
 use Rattle.calls.specs.Answers.{Answer}
 use Rattle.calls.specs.declared.call.Call.{Call}
 use Rattle.calls.specs.declared.call.Call.TheVariants.{Slope, Announce, Withdraw, Sample, Release}
 use Rattle.calls.specs.declared.phase.Phase.{Phase}
 use Rattle.calls.specs.declared.phase.Phase.TheVariants.{Free, Warning, Emergency}
 use Rattle.calls.specs.declared.refusal.Refusal.{Refusal}
-use Rattle.calls.specs.declared.refusal.Refusal.TheVariants.{PlaceOutOfLimits, TooFast, GradeOutOfLimits, Taken, Full, NotReleasable}
+use Rattle.calls.specs.declared.refusal.Refusal.TheVariants.{PlaceOutOfLimits, TooFast, GradeOutOfLimits, Conflict, Full, NotReleasable}
 use Rattle.calls.specs.declared.zone.Zone.{Zone}
 use Rattle.calls.specs.declared.zone.Zone.TheVariants as zones
-use Rattle.history.specs.History.{Section, Target, target_place, steepest}
-
--- What the mission and its lists hold, and how many more items fit in each. `clear` says that the last accepted call was a sample in zone 0.
-pub record State : Type 0 where
-  pub sections : List Section
-  pub section_room : ℕ
-  pub targets : List Target
-  pub target_room : ℕ
-  pub phase : Phase
-  pub clear : Bool
-
--- A mission as opened, with empty lists.
-abbrev pub start : (section_room target_room : ℕ) → State
-start m n = record { sections = []; section_room = m; targets = []; target_room = n; phase = Free; clear = false }
+use Rattle.history.specs.History.{Section, Target, target_place}
+use Rattle.history.specs.State.{Listed, Track, State, begins_at, has_number, is_unfit}
+use Rattle.history.specs.Zones.{is_clear, zone}
 
 -- The furthest place, in mm, and the greatest speed that a sample may have, in tenths of km/h.
-abbrev pub furthest : ℕ
-furthest = 1000000000
+abbrev pub max_place : ℕ
+max_place = FURTHEST.millimetres
 
-abbrev pub fastest : ℕ
-fastest = 4000
-
--- The grade is not from -35 to 35.
-abbrev pub unfit_grade : ℤ → Bool
-unfit_grade g = int_lt g steepest || int_lt (pos 35) g
-
--- One of the items has the mark n.
-abbrev pub marked : {X : Type 0} → (X → ℕ) → ℕ → List X → Bool
-marked mark n [] = false
-marked mark n (x ∷ xs) = mark x == n || marked mark n xs
-
--- A section begins at the place.
-abbrev pub begins_at : ℕ → List Section → Bool
-begins_at p xs = marked (λ (x : Section). x.place) p xs
-
--- A target has the number.
-abbrev pub numbered : ℕ → List Target → Bool
-numbered n ts = marked (λ (t : Target). t.number) n ts
-
--- Without the first target of the number.
-abbrev pub without : ℕ → List Target → List Target
-without n [] = []
-without n (t ∷ ts) = cond (t.number == n) ts (t ∷ without n ts)
-
--- The least grade of the stretch from front to place, both ends counted, and of a passed place the grade at the front.
--- The sections ascend; g is the grade before the first of them, and then the least so far.
-abbrev pub least_grade : ℤ → (front place : ℕ) → List Section → ℤ
-least_grade g front place [] = g
-least_grade g front place (x ∷ xs) =
-    cond (nat_le x.place front) (least_grade x.grade front place xs)
-    (cond (nat_le x.place place) (least_grade (int_min g x.grade) front place xs) g)
-
--- The zone of a target by its verdict: control where it is weak or the distance left is at most control, and so on outwards.
-abbrev pub zone_of : Verdict → (front place : ℕ) → Zone
-zone_of weak front place = zones.Control
-zone_of (strong exact c) front place =
-    cond (nat_le place (front + c.control)) zones.Control
-    (cond (nat_le place (front + c.warning)) zones.Warning
-    (cond (nat_le place (front + c.nominal)) zones.Nominal zones.Clear))
-
--- The question for a target.
-abbrev pub question : List Section → (front speed : ℕ) → Target → Question
-question xs front speed t = record { speed = speed; target = t.speed; grade = least_grade steepest front t.place xs }
-
--- The zone of a target at a sample: clear where it does not bind. A model does not judge an unfit grade; that counts as weak.
-abbrev pub target_zone : Meaning → List Section → (front speed : ℕ) → Target → Zone
-target_zone m xs front speed t =
-    cond (nat_lt t.speed speed)
-    (cond (unfit_grade (question xs front speed t).grade) zones.Control (zone_of (m.verdict (question xs front speed t)) front t.place))
-    zones.Clear
-
--- The largest zone of the targets.
-abbrev pub largest_zone : Meaning → List Section → (front speed : ℕ) → List Target → Zone
-largest_zone m xs front speed [] = zones.Clear
-largest_zone m xs front speed (t ∷ ts) = larger_zone (target_zone m xs front speed t) (largest_zone m xs front speed ts)
-
--- The zone of a sample: control above the top speed.
-abbrev pub zone : Meaning → List Section → List Target → (front speed : ℕ) → Zone
-zone m xs ts front speed = cond (nat_lt m.top speed) zones.Control (largest_zone m xs front speed ts)
-
--- So it is in a state.
-abbrev pub zone_in : Meaning → State → (front speed : ℕ) → Zone
-zone_in m s front speed = zone m s.sections s.targets front speed
-
--- The zone is 0.
-abbrev pub is_clear : Zone → Bool
-is_clear zones.Clear = true
-is_clear zones.Nominal = false
-is_clear zones.Warning = false
-is_clear zones.Control = false
-
--- The phase after a sample, by the phase before it and the zone.
-abbrev pub next : Phase → Zone → Phase
-next Free zones.Clear = Free
-next Free zones.Nominal = Free
-next Free zones.Warning = Warning
-next Free zones.Control = Emergency
-next Warning zones.Clear = Free
-next Warning zones.Nominal = Warning
-next Warning zones.Warning = Warning
-next Warning zones.Control = Emergency
-next Emergency z = Emergency
-
--- The phase is emergency, and the last accepted call was a sample in zone 0.
-abbrev pub releasable : Phase → Bool → Bool
-releasable Free clear = false
-releasable Warning clear = false
-releasable Emergency clear = clear
+abbrev pub max_speed : ℕ
+max_speed = FASTEST.tenths
 
 -- A ground for refusing, with its refusal.
 pub record Ground : Type 0 where
@@ -135,86 +37,101 @@ abbrev pub first : List Ground → Option Refusal
 first [] = None
 first (g ∷ gs) = cond g.holds (Some g.refusal) (first gs)
 
+-- The point, the distance or their sum is beyond the furthest place.
+abbrev pub is_beyond : (point distance : ℕ) → Bool
+is_beyond point distance = (nat_lt max_place point || nat_lt max_place distance) || nat_lt max_place (point + distance)
+
+-- The grounds that lie in the call's own numbers, whatever stands.
+abbrev pub limits : Meaning → Call → List Ground
+limits m (Slope p g) = ground_for (nat_lt max_place p.millimetres) PlaceOutOfLimits ∷ ground_for (is_unfit g.thousandths) GradeOutOfLimits ∷ []
+limits m (Announce n p d v) = ground_for (is_beyond p.millimetres d.millimetres) PlaceOutOfLimits ∷ ground_for (nat_lt m.top v.tenths) TooFast ∷ []
+limits m (Withdraw n) = []
+limits m (Sample p v) = ground_for (nat_lt max_place p.millimetres) PlaceOutOfLimits ∷ ground_for (nat_lt max_speed v.tenths) TooFast ∷ []
+limits m Release = []
+
+-- The phase is emergency, and the last accepted call was a sample in zone 0.
+abbrev pub is_releasable : Phase → Bool → Bool
+is_releasable Free clear = false
+is_releasable Warning clear = false
+is_releasable Emergency clear = clear
+
+-- The grounds for not adding an item: one stands in its way, or no more fit.
+abbrev pub adding_obstacles : {X : Type 0} → Bool → Listed X → List Ground
+adding_obstacles taken l = ground_for taken Conflict ∷ ground_for (l.room == 0) Full ∷ []
+
+-- The grounds for not adding a section at the place, a target with the number, and for not taking the number out.
+abbrev pub section_obstacles : (place : ℕ) → Track → List Ground
+section_obstacles p t = adding_obstacles (begins_at p t.sections.items) t.sections
+
+abbrev pub target_obstacles : (number : ℕ) → Track → List Ground
+target_obstacles n t = adding_obstacles (has_number n t.targets.items) t.targets
+
+abbrev pub withdrawal_obstacles : (number : ℕ) → Track → List Ground
+withdrawal_obstacles n t = ground_for (not (has_number n t.targets.items)) Conflict ∷ []
+
+-- The grounds that lie in what stands, in the room, and in the phase.
+abbrev pub obstacles : State → Call → List Ground
+obstacles s (Slope p g) = section_obstacles p.millimetres s.track
+obstacles s (Announce n p d v) = target_obstacles n s.track
+obstacles s (Withdraw n) = withdrawal_obstacles n s.track
+obstacles s (Sample p v) = []
+obstacles s Release = ground_for (not (is_releasable s.phase s.clear)) NotReleasable ∷ []
+
 -- The grounds on which a call is refused, in the order of their numbers.
 abbrev pub grounds : Meaning → State → Call → List Ground
-grounds m s (Slope p g) =
-    ground_for (nat_lt furthest p.millimetres) PlaceOutOfLimits
-    ∷ ground_for (unfit_grade g.thousandths) GradeOutOfLimits
-    ∷ ground_for (begins_at p.millimetres s.sections) Taken
-    ∷ ground_for (s.section_room == 0) Full ∷ []
-grounds m s (Announce n p d v) =
-    ground_for ((nat_lt furthest p.millimetres || nat_lt furthest d.millimetres) || nat_lt furthest (p.millimetres + d.millimetres)) PlaceOutOfLimits
-    ∷ ground_for (nat_lt m.top v.tenths) TooFast
-    ∷ ground_for (numbered n s.targets) Taken
-    ∷ ground_for (s.target_room == 0) Full ∷ []
-grounds m s (Withdraw n) = ground_for (not (numbered n s.targets)) Taken ∷ []
-grounds m s (Sample p v) =
-    ground_for (nat_lt furthest p.millimetres) PlaceOutOfLimits
-    ∷ ground_for (nat_lt fastest v.tenths) TooFast ∷ []
-grounds m s Release = ground_for (not (releasable s.phase s.clear)) NotReleasable ∷ []
+grounds m s c = limits m c ++ obstacles s c
+
+-- The phase after a sample, by the phase before it and the zone.
+abbrev pub next_phase : Phase → Zone → Phase
+next_phase Free zones.Clear = Free
+next_phase Free zones.Nominal = Free
+next_phase Free zones.Warning = Warning
+next_phase Free zones.Control = Emergency
+next_phase Warning zones.Clear = Free
+next_phase Warning zones.Nominal = Warning
+next_phase Warning zones.Warning = Warning
+next_phase Warning zones.Control = Emergency
+next_phase Emergency z = Emergency
+
+-- One item more, in the order of the places.
+abbrev pub with_item : {X : Type 0} → (X → ℕ) → X → Listed X → Listed X
+with_item place x l = record { items = placed_in place x l.items; room = l.room - 1 }
+
+-- Without the first target of the number.
+abbrev pub without_number : ℕ → List Target → List Target
+without_number n [] = []
+without_number n (t ∷ ts) = cond (t.number == n) ts (t ∷ without_number n ts)
+
+-- The track with one section more, with one target more, and with the target of a number gone.
+abbrev pub with_section : Section → Track → Track
+with_section x t = record t { sections = with_item (λ (y : Section). y.place) x t.sections }
+
+abbrev pub with_target : Target → Track → Track
+with_target x t = record t { targets = with_item (λ (y : Target). y.place) x t.targets }
+
+abbrev pub without_target : ℕ → Track → Track
+without_target n t = record t { targets = record { items = without_number n t.targets.items; room = t.targets.room + 1 } }
 
 -- What a step answers, and the state after it.
 pub record Stepped : Type 0 where
   pub answer : Answer
   pub state : State
 
+-- After an accepted call that is no sample no release is due.
+abbrev pub after_call : State → Stepped
+after_call s = record { answer = Ok None; state = record s { clear = false } }
+
+-- An accepted sample answers its zone.
+abbrev pub after_sample : State → Zone → Stepped
+after_sample s z = record { answer = Ok (Some z); state = record s { phase = next_phase s.phase z; clear = is_clear z } }
+
 -- What an accepted call does.
-abbrev pub does : (eps : ℕ) → Meaning → State → Call → Stepped
-does eps m s (Slope p g) = record {
-  answer = Ok None;
-  state = record {
-    sections = placed_in (λ (x : Section). x.place) (record { place = p.millimetres; grade = g.thousandths }) s.sections;
-    section_room = s.section_room - 1;
-    targets = s.targets;
-    target_room = s.target_room;
-    phase = s.phase;
-    clear = false;
-  };
-}
-does eps m s (Announce n p d v) = record {
-  answer = Ok None;
-  state = record {
-    sections = s.sections;
-    section_room = s.section_room;
-    targets = placed_in (λ (t : Target). t.place) (record { number = n; place = target_place eps p.millimetres d.millimetres; speed = v.tenths }) s.targets;
-    target_room = s.target_room - 1;
-    phase = s.phase;
-    clear = false;
-  };
-}
-does eps m s (Withdraw n) = record {
-  answer = Ok None;
-  state = record {
-    sections = s.sections;
-    section_room = s.section_room;
-    targets = without n s.targets;
-    target_room = s.target_room + 1;
-    phase = s.phase;
-    clear = false;
-  };
-}
-does eps m s (Sample p v) = record {
-  answer = Ok (Some (zone_in m s p.millimetres v.tenths));
-  state = record {
-    sections = s.sections;
-    section_room = s.section_room;
-    targets = s.targets;
-    target_room = s.target_room;
-    phase = next s.phase (zone_in m s p.millimetres v.tenths);
-    clear = is_clear (zone_in m s p.millimetres v.tenths);
-  };
-}
-does eps m s Release = record {
-  answer = Ok None;
-  state = record {
-    sections = s.sections;
-    section_room = s.section_room;
-    targets = s.targets;
-    target_room = s.target_room;
-    phase = Free;
-    clear = false;
-  };
-}
+abbrev pub does : Values → Meaning → State → Call → Stepped
+does sheet m s (Slope p g) = after_call (record s { track = with_section (record { place = p.millimetres; grade = g.thousandths }) s.track })
+does sheet m s (Announce n p d v) = after_call (record s { track = with_target (record { number = n; place = target_place sheet p.millimetres d.millimetres; speed = v.tenths }) s.track })
+does sheet m s (Withdraw n) = after_call (record s { track = without_target n s.track })
+does sheet m s (Sample p v) = after_sample s (zone m s.track p.millimetres v.tenths)
+does sheet m s Release = after_call (record s { phase = Free })
 
 -- A refusal leaves the state alone.
 abbrev pub decide : Option Refusal → State → Stepped → Stepped
@@ -222,5 +139,5 @@ decide None s done = done
 decide (Some r) s done = record { answer = Err r; state = s }
 
 -- One call of the mission.
-abbrev pub step : (eps : ℕ) → Meaning → State → Call → Stepped
-step eps m s c = decide (first (grounds m s c)) s (does eps m s c)
+abbrev pub step : Values → Meaning → State → Call → Stepped
+step sheet m s c = decide (first (grounds m s c)) s (does sheet m s c)

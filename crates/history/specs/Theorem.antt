@@ -1,25 +1,35 @@
--- What is proved of every run.
-use Rattle.std.specs.Prelude.{ℕ, List, [], ◌∷◌, ◌++◌}
+-- What is proved of every call and of every run.
+use Rattle.std.specs.Prelude.{List, [], ◌∷◌, ◌++◌}
+use Rattle.sheet.specs.declared.values.Values.{Values}
 use Rattle.braking.specs.Laws.{Lawful}
 use Rattle.braking.specs.Meaning.{Meaning}
 use Rattle.calls.specs.declared.call.Call.{Call}
+use Rattle.history.specs.Agrees.{Agrees}
 use Rattle.history.specs.History.{History}
 use Rattle.history.specs.Lines.{GivesOneGrade, KeepsTheLines}
-use Rattle.history.specs.Step.{State, start, step}
-use Rattle.history.specs.Runs.{Led, entry_of, run}
+use Rattle.history.specs.Runs.{entry_of, run}
+use Rattle.history.specs.State.{Capacity, empty_track, State, Valid, start}
+use Rattle.history.specs.Step.{step}
 
 -- Whatever is called, the history of a mission over a lawful model keeps the three lines.
 abbrev pub EveryRunKeepsTheLines : Type 0
-EveryRunKeepsTheLines = (eps : ℕ) (m : Meaning) → Lawful m → (section_room target_room : ℕ) (calls : List Call) →
-    KeepsTheLines eps m (run eps m (start section_room target_room) calls)
+EveryRunKeepsTheLines = (sheet : Values) (m : Meaning) → Lawful m → (capacity : Capacity) (calls : List Call) →
+    KeepsTheLines sheet m (run sheet m (start (empty_track capacity)) calls)
 
 -- In the history of a run every stretch ahead has one grade, so that every binding target has one question.
 abbrev pub EveryStretchHasOneGrade : Type 0
-EveryStretchHasOneGrade = (eps : ℕ) (m : Meaning) (section_room target_room : ℕ) (calls : List Call) →
-    GivesOneGrade (run eps m (start section_room target_room) calls)
+EveryStretchHasOneGrade = (sheet : Values) (m : Meaning) (capacity : Capacity) (calls : List Call) →
+    GivesOneGrade (run sheet m (start (empty_track capacity)) calls)
 
--- A history that led to a state, with one more call behind it, leads to the state after the call, and keeps the three lines.
-abbrev pub EveryStepKeepsTheLines : Type 0
-EveryStepKeepsTheLines = (eps : ℕ) (m : Meaning) → Lawful m → (h : History) (s : State) → Led eps m h s → (c : Call) →
-    Led eps m (h ++ entry_of c (step eps m s c) ∷ []) (step eps m s c).state
-    × KeepsTheLines eps m (h ++ entry_of c (step eps m s c) ∷ [])
+-- A mission as opened agrees with the empty history.
+abbrev pub TheStartAgrees : Type 0
+TheStartAgrees = (sheet : Values) (m : Meaning) (capacity : Capacity) → Agrees sheet m [] (start (empty_track capacity))
+
+-- Whatever history agrees with a state, with the call behind it, it agrees with the state after the call.
+abbrev pub EveryStepAgrees : Type 0
+EveryStepAgrees = (sheet : Values) (m : Meaning) → Lawful m → (h : History) (s : State) → Valid s.track → Agrees sheet m h s → (c : Call) →
+    Agrees sheet m (h ++ entry_of c (step sheet m s c) ∷ []) (step sheet m s c).state
+
+-- A step keeps what the type of the lists holds.
+abbrev pub EveryStepKeepsValid : Type 0
+EveryStepKeepsValid = (sheet : Values) (m : Meaning) (s : State) → Valid s.track → (c : Call) → Valid (step sheet m s c).state.track

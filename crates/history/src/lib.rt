@@ -1,18 +1,37 @@
 #![tactic(auto)]
 
-ghost use Rattle.history.specs.Theorem.{EveryRunKeepsTheLines, EveryStepKeepsTheLines, EveryStretchHasOneGrade};
+ghost use Rattle.braking.specs.Laws.{Lawful};
+ghost use Rattle.history.specs.Examples.{RuledOut, Worked, tenfold};
+ghost use Rattle.history.specs.Theorem.{EveryRunKeepsTheLines, EveryStepAgrees, EveryStepKeepsValid, EveryStretchHasOneGrade, TheStartAgrees};
+
+// A mission as opened agrees with the empty history.
+pub fn the_start_agrees()
+    ensures { TheStartAgrees }
+{}
+
+// Whatever history keeps the three lines and agrees with a mission and its lists: with any call behind it, it does so after that call.
+pub fn every_step_agrees()
+    ensures { EveryStepAgrees }
+{}
+
+// Every call keeps what the type of a mission's lists holds of the items in them.
+pub fn every_step_keeps_valid()
+    ensures { EveryStepKeepsValid }
+{}
 
 // Whatever is called, the history of a mission over a lawful model keeps the three lines.
 pub fn every_run_keeps_the_lines()
     ensures { EveryRunKeepsTheLines }
 {}
 
-// A history with one more call behind it leads to the state after the call, and keeps the three lines.
-pub fn every_step_keeps_the_lines()
-    ensures { EveryStepKeepsTheLines }
-{}
-
 // Every stretch ahead has one grade, so that every binding target has one question.
 pub fn every_stretch_has_one_grade()
     ensures { EveryStretchHasOneGrade }
+{}
+
+// A run worked out in numbers over a lawful model, and histories that the three lines rule out.
+pub fn worked_histories()
+    ensures lawful { Lawful tenfold }
+    ensures worked { Worked }
+    ensures ruled_out { RuledOut }
 {}

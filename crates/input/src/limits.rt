@@ -1,4 +1,4 @@
-// How many bytes of the standard input a program reads at the most, for one text and for many.
+// How many bytes of the standard input a program reads at most, for one text and for many.
 pub const ONE_TEXT: u64 = 65_536;
 
 pub const MANY_TEXTS: u64 = 1_048_576;

@@ -1,27 +1,36 @@
-ghost use Rattle.std.specs.Prelude.{◌≡◌, map, IfOk};
+ghost use Rattle.std.specs.Prelude.{◌≡◌, map};
 ghost use Rattle.history.specs.Lines.{GivesOneGrade, KeepsTheLines};
 ghost use Rattle.history.specs.Runs.{run as history_of};
-ghost use Rattle.history.specs.Step.{start};
-ghost use Rattle.constant_brake.specs.Formulas.{meaning_of};
+ghost use Rattle.history.specs.State.{empty_track, full_capacity, start};
+ghost use Rattle.constant_brake.specs.Brakes.{brake_meaning};
 
-use calls::Call;
+use calls::{Call, Record};
 use constant_brake::ConstantBrake;
-use journey::{Journey, run};
 use place_list::Placed;
-use sheet::Admitted;
-use std::alloc::Global;
-use supervision::{MOST_SECTIONS, MOST_TARGETS};
+use sheet::{Admitted, Draft};
+use supervision::{Journey, MAX_SECTIONS, MAX_TARGETS, Memory, run};
 
-// Opens the sheet with the brake, makes the calls and closes it. The mission's law holds for this brake, by the call's own contract.
-// It lends the memory, as the program `mission` does: what a mission is run in is its caller's. `heap` and `calls` come as two, as in `journey`.
-pub(crate) fn drive(heap: Global, sheet: Admitted, brake: ConstantBrake, calls: &[Call]) -> Journey
-    ensures calls { IfOk result.records (λ v. map (λ e. e.call) v.items ≡ calls.now) }
-    ensures history { IfOk result.records (λ v. v.items ≡ history_of sheet.values.eps (meaning_of brake.stated brake.lead.tw brake.lead.ti) (start 64 32) calls.now) }
-    ensures lines { IfOk result.records (λ v. KeepsTheLines sheet.values.eps (meaning_of brake.stated brake.lead.tw brake.lead.ti) v.items) }
-    ensures grades { IfOk result.records (λ v. GivesOneGrade v.items) }
-    ensures draft { result.draft.values ≡ sheet.values }
+// Opens the sheet with the brake, makes the calls and closes it. The mission's law holds for this brake, by the contract of run.
+pub(crate) fn drive<const CALLS: usize>(
+    sheet: Admitted,
+    brake: ConstantBrake,
+    calls: &[Call; CALLS],
+) -> [Record; CALLS]
+    ensures calls { map (λ e. e.call) result ≡ calls.now }
+    ensures history { result ≡ history_of sheet.values (brake_meaning brake) (start (empty_track full_capacity)) calls.now }
+    ensures lines { KeepsTheLines sheet.values (brake_meaning brake) result }
+    ensures grades { GivesOneGrade result }
 {
-    let mut sections = [Placed::default(); MOST_SECTIONS];
-    let mut targets = [Placed::default(); MOST_TARGETS];
-    run(heap, sheet, brake, &mut sections, &mut targets, calls)
+    let mut sections = [Placed::default(); MAX_SECTIONS];
+    let mut targets = [Placed::default(); MAX_TARGETS];
+    let memory = Memory {
+        sections: &mut sections,
+        targets: &mut targets,
+    };
+    let mut records = [Record::BLANK; CALLS];
+    let Journey {
+        calls_made: _,
+        draft: Draft { values: _ },
+    } = run(sheet, brake, memory, &mut records, calls);
+    records
 }

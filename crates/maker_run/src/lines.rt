@@ -4,8 +4,8 @@ use calls::{Call, Record};
 use constant_brake::ConstantBrake;
 use session::Shown;
 use std::io;
+use supervision::{Stretch, target_place};
 use units::{Distance, Speed};
-use zones::{Stretch, target_place};
 
 // A call, for a sample the question that its target is judged by, and what the call was answered.
 pub(crate) fn show_record(
@@ -28,7 +28,7 @@ fn show_question(
     speed: Speed,
 ) -> io::Result<()> {
     // an early end that prints, which `?` does not
-    let Some(place) = target_place(POINT, DISTANCE, SHEET.eps) else {
+    let Some(place) = target_place(POINT, DISTANCE, &SHEET) else {
         return println!(rt; "no place");
     };
     let stretch = Stretch { front, place };
@@ -36,7 +36,7 @@ fn show_question(
     print!(rt;
         "grade={} left={} ",
         grade.thousandths,
-        place.millimetres.saturating_sub(front.millimetres)
+        stretch.distance_left().millimetres
     )?;
     let question = Question {
         speed,

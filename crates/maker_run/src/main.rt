@@ -7,7 +7,6 @@ mod script;
 
 use constant_brake::ConstantBrake;
 use driving::drive;
-use journey::Journey;
 use lines::show_record;
 use script::{BRAKE, CALLS, SHEET};
 use sheet::{Admitted, Draft, Rejected};
@@ -15,7 +14,7 @@ use std::io;
 
 fn main(rt: HostRuntime) -> io::Result<()> {
     match (Draft { values: SHEET }).admit() {
-        Ok(sheet) => open(&rt, sheet),
+        Ok(sheet) => show_mission(&rt, sheet),
         Err(
             Rejected {
                 refusal,
@@ -26,9 +25,9 @@ fn main(rt: HostRuntime) -> io::Result<()> {
 }
 
 // The mission of the sheet with the maker's brake.
-fn open(rt: &(impl Print + AllocGlobal), sheet: Admitted) -> io::Result<()> {
+fn show_mission(rt: &impl Print, sheet: Admitted) -> io::Result<()> {
     match ConstantBrake::new(BRAKE, &sheet) {
-        Ok(brake) => follow(rt, sheet, brake),
+        Ok(brake) => show_records(rt, sheet, brake),
         Err(refusal) => {
             let Draft { values: _ } = sheet.into_draft();
             println!(rt; "{refusal}")
@@ -37,16 +36,8 @@ fn open(rt: &(impl Print + AllocGlobal), sheet: Admitted) -> io::Result<()> {
 }
 
 // Makes the calls of the script, and shows the record of each.
-fn follow(
-    rt: &(impl Print + AllocGlobal),
-    sheet: Admitted,
-    brake: ConstantBrake,
-) -> io::Result<()> {
-    let Journey {
-        records,
-        draft: Draft { values: _ },
-    } = drive(rt.alloc(), sheet, brake, &CALLS);
-    for record in &records? {
+fn show_records(rt: &impl Print, sheet: Admitted, brake: ConstantBrake) -> io::Result<()> {
+    for record in &drive(sheet, brake, &CALLS) {
         show_record(rt, &brake, *record)?;
     }
     Ok(())

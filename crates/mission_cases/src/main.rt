@@ -1,70 +1,144 @@
 #![tactic(auto)]
 
-// Runs many missions, whose texts stand with a line `next` between them, call by call, and prints what each line is answered.
+// Runs many missions, each text ended by a byte 1, through the function that the program `mission` calls, and prints what each line is answered.
 
-use braking::BrakingModel;
-use input::{MANY_TEXTS, read_most};
-use models::SheetModel;
+use calls::Record;
+use input::{MANY_TEXTS, TEXT_END, ended_texts, read_at_most};
 use place_list::Placed;
-use session::{Shown, read_lines, sheet_end};
-use sheet::{Admitted, Draft};
-use sheet_text::read_admitted;
+use session::{MAX_BYTES, Shown, answer_text};
 use std::io;
-use supervision::{Lists, Mission};
+use supervision::{Memory, Target};
+use units::Grade;
 
-// The line between two texts.
-const NEXT: &[u8] = b"next\n";
+// More memory than a mission's lists use, so that their limits show.
+const SECTION_MEMORY: usize = 70;
+
+const TARGET_MEMORY: usize = 40;
 
 fn main(rt: HostRuntime) -> io::Result<()> {
-    let texts = read_most(rt.alloc(), rt.stdin(), MANY_TEXTS)?;
-    let lines = texts
-        .as_slice()
-        .split_inclusive(|byte| *byte == b'\n')
-        .collect::<Vec<&[u8]>>(rt.alloc())?;
-    // the index only tells the first from the others: `next` is printed between two
-    for (i, mission) in lines.as_slice().split(|line| *line == NEXT).enumerate() {
+    let texts = read_at_most(rt.alloc(), rt.stdin(), MANY_TEXTS)?;
+    let mut records = vec![in rt.alloc(); Record::BLANK; MAX_BYTES]?;
+    let mut shown = vec![in rt.alloc(); Shown::BLANK; MAX_BYTES]?;
+    for (i, text) in ended_texts(rt.alloc(), texts.as_slice(), TEXT_END)?
+        .iter()
+        .enumerate()
+    {
+        // between what is printed on two texts
         if i > 0 {
             println!(rt; "next")?;
         }
-        show_mission(&rt, mission.concat(rt.alloc())?.as_slice())?;
+        show_mission(&rt, text, &mut records, &mut shown)?;
     }
     Ok(())
 }
 
-fn show_mission(rt: &(impl Print + AllocGlobal), text: &[u8]) -> io::Result<()> {
-    let end = sheet_end(text);
-    match read_admitted(&text[..end]) {
-        Ok(sheet) => show_calls(rt, sheet, &text[end..]),
+fn show_mission(
+    rt: &impl Print,
+    text: &[u8],
+    records: &mut [Record],
+    shown: &mut [Shown],
+) -> io::Result<()> {
+    let mut sections = [Placed::<Grade>::default(); SECTION_MEMORY];
+    let mut targets = [Placed::<Target>::default(); TARGET_MEMORY];
+    let memory = Memory {
+        sections: &mut sections,
+        targets: &mut targets,
+    };
+    match answer_text(text, memory, records, shown) {
+        Ok(answered) => {
+            for line in &shown[..answered.lines] {
+                println!(rt; "{line}")?;
+            }
+            Ok(())
+        }
         Err(fault) => println!(rt; "{fault}"),
     }
 }
 
-// Opens the mission, makes the calls and closes it.
-fn show_calls(rt: &(impl Print + AllocGlobal), sheet: Admitted, text: &[u8]) -> io::Result<()> {
-    // More memory than a mission's lists use, so that their limits show.
-    let mut section_memory = [Placed::default(); 70];
-    let mut target_memory = [Placed::default(); 40];
-    let mut lists = Lists::new(&mut section_memory, &mut target_memory);
-    let model = SheetModel::new(&sheet);
-    let mut mission = Mission::over(sheet, model);
-    let shown = show_lines(rt, &mut mission, &mut lists, text);
-    let Draft { values: _ } = mission.close();
-    shown
-}
+#[cfg(test)]
+mod tests {
+    use super::*;
+    use session::Answered;
+    use std::test::Fail;
 
-fn show_lines<M: BrakingModel>(
-    rt: &(impl Print + AllocGlobal),
-    mission: &mut Mission<M>,
-    lists: &mut Lists<'_>,
-    text: &[u8],
-) -> io::Result<()> {
-    let lines = read_lines(rt.alloc(), text)?;
-    for line in lines.as_slice() {
-        let shown = match *line {
-            Ok(call) => Shown::from(mission.apply(lists, call)),
-            Err(fault) => Shown::of_fault(fault, mission.phase()),
+    // A sheet, then a release, a line that is no call, a section, and two releases.
+    const TEXT: &[u8] =
+        b"model=scmt\nregime=E\ntrain=V\nbrake=V\nep=0\nlambda=100\nlength=400\nlfren=LD\nkr=100\ntw=20\nti=30\neps=0\ncall=release\ncall=\ncall=slope place=0 grade=0\ncall=release\ncall=release\n";
+
+    // How much is answered, in lists that hold one section and one target.
+    fn answered(records: &mut [Record], shown: &mut [Shown]) -> Option<Answered> {
+        let mut sections = [Placed::<Grade>::default(); 1];
+        let mut targets = [Placed::<Target>::default(); 1];
+        let memory = Memory {
+            sections: &mut sections,
+            targets: &mut targets,
         };
-        println!(rt; "{shown}")?;
+        answer_text(TEXT, memory, records, shown).ok()
     }
-    Ok(())
+
+    #[test]
+    fn ends_where_no_record_is_left(rt: HostRuntime) -> Result<(), Fail> {
+        let mut shown = [Shown::BLANK; 8];
+        let mut four = [Record::BLANK; 4];
+        let mut two = [Record::BLANK; 2];
+        let mut none = [Record::BLANK; 0];
+        assert_eq!(rt;
+            answered(&mut four, &mut shown),
+            Some(Answered {
+                lines: 5,
+                calls: 4,
+                ended: true
+            })
+        );
+        assert_eq!(rt;
+            answered(&mut two, &mut shown),
+            Some(Answered {
+                lines: 3,
+                calls: 2,
+                ended: false
+            })
+        );
+        assert_eq!(rt;
+            answered(&mut none, &mut shown),
+            Some(Answered {
+                lines: 0,
+                calls: 0,
+                ended: false
+            })
+        );
+        Ok(())
+    }
+
+    #[test]
+    fn ends_where_nothing_more_is_shown(rt: HostRuntime) -> Result<(), Fail> {
+        let mut records = [Record::BLANK; 8];
+        let mut five = [Shown::BLANK; 5];
+        let mut two = [Shown::BLANK; 2];
+        let mut none = [Shown::BLANK; 0];
+        assert_eq!(rt;
+            answered(&mut records, &mut five),
+            Some(Answered {
+                lines: 5,
+                calls: 4,
+                ended: true
+            })
+        );
+        assert_eq!(rt;
+            answered(&mut records, &mut two),
+            Some(Answered {
+                lines: 2,
+                calls: 1,
+                ended: false
+            })
+        );
+        assert_eq!(rt;
+            answered(&mut records, &mut none),
+            Some(Answered {
+                lines: 0,
+                calls: 0,
+                ended: false
+            })
+        );
+        Ok(())
+    }
 }

@@ -1,5 +1,6 @@
 use sheet::{LengthChoice, Model, Regime, Service, Values};
 
+// In tenths of km/h, about the places where a rule of a model changes.
 pub const SPEEDS: [u64; 14] = [
     1, 299, 599, 600, 1000, 1244, 1500, 1501, 2600, 2601, 3100, 3300, 4000, 4001,
 ];
@@ -8,7 +9,7 @@ pub const TARGETS: [u64; 3] = [0, 300, 1450];
 
 pub const GRADES: [i64; 8] = [-36, -35, -21, -20, 0, 1, 35, 36];
 
-// The sheets behind sheet A.
+// The sheets that are tried after sheet A.
 pub const SHEETS: [Values; 9] = [
     Values {
         model: Model::Scmt,

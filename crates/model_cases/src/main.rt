@@ -11,7 +11,7 @@ use sheet::{Draft, Rejected, Values};
 use std::io;
 use units::{Grade, Speed};
 
-// The model of a sheet that is admitted. A match: the draft that comes back is moved and is taken apart, so `.ok()` does not serve.
+// The model of the sheet with these values, if they are admitted. A draft cannot be dropped, so the one that comes back is taken apart.
 fn model_of(values: Values) -> Option<SheetModel> {
     match (Draft { values }).admit() {
         Ok(sheet) => {
@@ -34,7 +34,7 @@ fn show(rt: &impl Print, model: &SheetModel, number: usize, question: Question) 
         "{number} {} {} {}",
         question.speed.tenths, question.target.tenths, question.grade.thousandths
     )?;
-    // a refusal is printed and no error of the program, so `?` does not serve
+    // a refusal is printed, and is no error of the program
     let steps = match model.steps(question) {
         Err(refusal) => return println!(rt; " {refusal}"),
         Ok(steps) => steps,
@@ -43,7 +43,7 @@ fn show(rt: &impl Print, model: &SheetModel, number: usize, question: Question) 
         " {} {} {} {}",
         steps.reaction.ticks, steps.slope.units, steps.reached.steps, steps.net.units
     )?;
-    // numbers alone, where an answer is printed elsewhere with the names of the distances
+    // the distances are columns, without the names that their `Display` gives
     match steps.answer {
         None => println!(rt; " weak"),
         Some(distances) => println!(rt;
@@ -55,12 +55,12 @@ fn show(rt: &impl Print, model: &SheetModel, number: usize, question: Question) 
     }
 }
 
-// The questions of a sheet at one speed. The parts come one by one: a struct of model and numbers would be built for this call alone.
-fn show_speed(rt: &impl Print, model: &SheetModel, number: usize, speed: u64) -> io::Result<()> {
+// The questions of a sheet, known by its number, at one speed.
+fn show_speed(rt: &impl Print, model: &SheetModel, number: usize, speed: Speed) -> io::Result<()> {
     for target in &TARGETS {
         for grade in &GRADES {
             let question = Question {
-                speed: Speed { tenths: speed },
+                speed,
                 target: Speed { tenths: *target },
                 grade: Grade {
                     thousandths: *grade,
@@ -73,13 +73,12 @@ fn show_speed(rt: &impl Print, model: &SheetModel, number: usize, speed: u64) ->
 }
 
 fn main(rt: HostRuntime) -> io::Result<()> {
-    // the number is printed
     for (number, values) in [sheet_a()].iter().chain(&SHEETS).enumerate() {
         match model_of(*values) {
             None => println!(rt; "{number} not admitted")?,
             Some(model) => {
                 for speed in &SPEEDS {
-                    show_speed(&rt, &model, number, *speed)?;
+                    show_speed(&rt, &model, number, Speed { tenths: *speed })?;
                 }
             }
         }

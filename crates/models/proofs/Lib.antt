@@ -1,3 +1,4 @@
 mod Tables
 mod FadingSpeeds
 mod Chains
+mod Uncut

@@ -80,29 +80,29 @@ unfoldable pub reaction_time : Model → Values → (V V0 : ℕ) → ℕ
 reaction_time m v V V0 = pipe_share m v V V0 * pipe_time v (counted_ep m v) + delay m
 
 -- The deceleration of the brake before its factors, in units.
-abbrev pub start : ℕ → ℕ
-start lambda = 100 * (685 * lambda + 9400)
+abbrev pub base_deceleration : ℕ → ℕ
+base_deceleration lambda = 100 * (685 * lambda + 9400)
 
 -- A factor of scmt where the test holds, else 1.
-abbrev pub scmt_where : Model → Bool → Fraction → Fraction
-scmt_where Scmt b f = if b then f else whole 1
-scmt_where Etcs b f = whole 1
+abbrev pub scmt_factor : Model → Bool → Fraction → Fraction
+scmt_factor Scmt b f = if b then f else whole 1
+scmt_factor Etcs b f = whole 1
 
-abbrev pub fading : (lambda V : ℕ) → Fraction
-fading lambda V = ratio (100000 - 21 * (V - vl lambda)) 100000
+abbrev pub fading_factor : (lambda V : ℕ) → Fraction
+fading_factor lambda V = ratio (100000 - 21 * (V - vl lambda)) 100000
 
-abbrev pub fast : (V : ℕ) → Fraction
-fast V = ratio (8500 + V) 10000
+abbrev pub high_speed_factor : (V : ℕ) → Fraction
+high_speed_factor V = ratio (8500 + V) 10000
 
-abbrev pub targeted : (V V0 : ℕ) → Fraction
-targeted V V0 = ratio (100 * V - 5 * V0) (100 * V)
+abbrev pub target_factor : (V V0 : ℕ) → Fraction
+target_factor V V0 = ratio (100 * V - 5 * V0) (100 * V)
 
 -- The five factors, in order.
 unfoldable pub factors : Model → Values → (V V0 : ℕ) → List Fraction
 factors m v V V0 =
-    scmt_where m (nat_lt (vl v.lambda) V) (fading v.lambda V)
+    scmt_factor m (nat_lt (vl v.lambda) V) (fading_factor v.lambda V)
     ∷ ratio v.kr 100
-    ∷ scmt_where m (nat_lt 1500 V) (fast V)
-    ∷ scmt_where m (nat_lt 2600 V) (ratio 80 100)
-    ∷ targeted V V0
+    ∷ scmt_factor m (nat_lt 1500 V) (high_speed_factor V)
+    ∷ scmt_factor m (nat_lt 2600 V) (ratio 80 100)
+    ∷ target_factor V V0
     ∷ []

@@ -2,7 +2,7 @@ pub mod Formulas
 pub mod Meanings
 pub mod Named
 pub mod Scaling
-pub mod Shown
+pub mod Laws
 pub mod Vl
 pub mod Lawfulness
 pub mod PipeTimes

@@ -3,11 +3,11 @@ use Rattle.units.specs.Fractions.{whole}
 use Rattle.braking.specs.Meaning.{Meaning, Question}
 use Rattle.sheet.specs.declared.words.Model.{Model}
 use Rattle.sheet.specs.declared.values.Values.{Values}
-use Rattle.stopping.specs.Factors.{product, rounded_down}
+use Rattle.stopping.specs.Factors.{product, product_down}
 use Rattle.stopping.specs.Slopes.{slope_of}
 use Rattle.stopping.specs.Meanings.{meaning_by}
 use Rattle.stopping.specs.Stops.{Stop}
-use Rattle.models.specs.Formulas.{top, reaction_time, start, factors}
+use Rattle.models.specs.Formulas.{top, reaction_time, base_deceleration, factors}
 
 -- d is the exact product over the factors and D the product rounded down after each, both with the slope.
 abbrev pub stop_for : Model → Values → Question → Stop
@@ -16,10 +16,10 @@ stop_for m v q = record {
   target = q.target;
   reaction = reaction_time m v q.speed q.target;
   slope = slope_of q.grade;
-  braking = product (whole (start v.lambda)) (factors m v q.speed q.target);
-  rounded = rounded_down (start v.lambda) (factors m v q.speed q.target);
-  tw = v.tw;
-  ti = v.ti;
+  braking = product (whole (base_deceleration v.lambda)) (factors m v q.speed q.target);
+  rounded = product_down (base_deceleration v.lambda) (factors m v q.speed q.target);
+  warning = v.tw;
+  hysteresis = v.ti;
 }
 
 abbrev pub meaning_of : Model → Values → Meaning

@@ -1,8 +1,8 @@
--- A factor of the code, and the fraction that it stands for.
+-- A factor of the code has the value of a fraction.
 use Rattle.std.specs.Prelude.{◌≡◌}
 use Rattle.units.specs.Fractions.{Fraction}
 use Rattle.models.specs.declared.factor.Factor.{Factor}
 
-pub record Is (f : Fraction) (r : Factor) : Type 0 where
+pub record HasValue (f : Fraction) (r : Factor) : Type 0 where
   pub over : r.over ≡ f.over
   pub under : r.under ≡ f.under

@@ -1,32 +1,37 @@
-ghost use Rattle.std.specs.Prelude.{◌≡◌, ◌-◌, ◌*◌, ◌≤◌, pos, if◌then◌else◌, nat_lt};
+ghost use Rattle.std.specs.Prelude.{◌≡◌, ◌-◌, ◌*◌, ◌≤◌, if◌then◌else◌, nat_lt};
 ghost use Rattle.units.specs.Fractions.{whole, ratio};
-ghost use Rattle.models.specs.Formulas.{start, fast, targeted};
-ghost use Rattle.models.specs.Scaling.{Is};
+ghost use Rattle.models.specs.Formulas.{base_deceleration, high_speed_factor, target_factor};
+ghost use Rattle.models.specs.Scaling.{HasValue};
 
+use crate::admissible_values::AdmissibleValues;
 use crate::factor::Factor;
-use crate::fit_values::FitValues;
 use crate::numbers;
 use braking::Approach;
-use units::{Deceleration, Speed};
+use stopping::BrakeDeceleration;
+use units::Speed;
 
+// The five factors of a brake's deceleration, as docs/MODELS.md has them. One that does not hold is 1.
 const ONE: Factor = Factor { over: 1, under: 1 };
 
-// The deceleration of the brake before its factors, in units.
-pub(crate) fn starting(sheet: &FitValues) -> u64
-    ensures value { result ≡ start sheet.now.values.lambda }
-    ensures bounded { result ≤ 12000000 }
+// The deceleration of the brake before its factors, by the braked weight percentage lambda.
+pub(crate) fn base_deceleration(sheet: &AdmissibleValues) -> BrakeDeceleration
+    ensures value { result.units ≡ base_deceleration sheet.now.values.lambda }
+    ensures bounded { result.units ≤ 12000000 }
 {
-    100 * (numbers::LAMBDA_SLOPE * u64::from(sheet.values.lambda) + numbers::LAMBDA_REST)
+    let hundreds = numbers::LAMBDA_SLOPE * u64::from(sheet.values.lambda) + numbers::LAMBDA_REST;
+    BrakeDeceleration {
+        units: 100 * hundreds,
+    }
 }
 
 // The brake fades above VL.
-// This factor and the two of high speed are alike only in the test of the speed: a closure for what stands behind it would be no plainer.
-pub(crate) fn fading(vl: Speed, approach: Approach) -> Factor
-    ensures { Is (if nat_lt vl.tenths approach.speed.tenths then ratio (100000 - 21 * (approach.speed.tenths - vl.tenths)) 100000 else whole 1) result }
+pub(crate) fn fading_factor(vl: Speed, approach: Approach) -> Factor
+    ensures { HasValue (if nat_lt vl.tenths approach.speed then ratio (100000 - 21 * (approach.speed - vl.tenths)) 100000 else whole 1) result }
 {
-    if approach.speed > vl {
+    let speed = approach.speed();
+    if speed > vl {
         Factor {
-            over: 100_000 - numbers::FADING * (approach.speed.tenths - vl.tenths),
+            over: 100_000 - numbers::FADING * (speed - vl).tenths,
             under: 100_000,
         }
     } else {
@@ -34,9 +39,9 @@ pub(crate) fn fading(vl: Speed, approach: Approach) -> Factor
     }
 }
 
-// The share of the braking that is counted on.
-pub(crate) fn counted(sheet: &FitValues) -> Factor
-    ensures { Is (ratio sheet.now.values.kr 100) result }
+// The share of the braking that is counted on, by the sheet.
+pub(crate) fn kr_factor(sheet: &AdmissibleValues) -> Factor
+    ensures { HasValue (ratio sheet.now.values.kr 100) result }
 {
     Factor {
         over: u64::from(sheet.values.kr),
@@ -44,13 +49,14 @@ pub(crate) fn counted(sheet: &FitValues) -> Factor
     }
 }
 
-// At high speed.
-pub(crate) fn faster(approach: Approach) -> Factor
-    ensures { Is (if nat_lt 1500 approach.speed.tenths then fast approach.speed.tenths else whole 1) result }
+// Above 150 km/h the brake does better the faster the train is.
+pub(crate) fn high_speed_factor(approach: Approach) -> Factor
+    ensures { HasValue (if nat_lt 1500 approach.speed then high_speed_factor approach.speed else whole 1) result }
 {
-    if approach.speed > numbers::FAST {
+    let speed = approach.speed();
+    if speed > numbers::HIGH_SPEED {
         Factor {
-            over: 8_500 + approach.speed.tenths,
+            over: 8_500 + speed.tenths,
             under: 10_000,
         }
     } else {
@@ -58,13 +64,13 @@ pub(crate) fn faster(approach: Approach) -> Factor
     }
 }
 
-// At very high speed.
-pub(crate) fn fastest(approach: Approach) -> Factor
-    ensures { Is (if nat_lt 2600 approach.speed.tenths then ratio 80 100 else whole 1) result }
+// Above 260 km/h less is counted on.
+pub(crate) fn very_high_speed_factor(approach: Approach) -> Factor
+    ensures { HasValue (if nat_lt 2600 approach.speed then ratio 80 100 else whole 1) result }
 {
-    if approach.speed > numbers::VERY_FAST {
+    if approach.speed() > numbers::VERY_HIGH_SPEED {
         Factor {
-            over: numbers::VERY_FAST_SHARE,
+            over: numbers::VERY_HIGH_SPEED_SHARE,
             under: 100,
         }
     } else {
@@ -73,22 +79,12 @@ pub(crate) fn fastest(approach: Approach) -> Factor
 }
 
 // A target speed above 0 takes a little off.
-pub(crate) fn targeting(approach: Approach) -> Factor
-    ensures { Is (targeted approach.speed.tenths approach.target.tenths) result }
+pub(crate) fn target_factor(approach: Approach) -> Factor
+    ensures { HasValue (target_factor approach.speed approach.target) result }
 {
-    let (speed, target) = (approach.speed.tenths, approach.target.tenths);
+    let (speed, target) = (approach.speed().tenths, approach.target().tenths);
     Factor {
         over: 100 * speed - numbers::TARGET_SHARE * target,
         under: 100 * speed,
-    }
-}
-
-// So many units as a deceleration. The cast is proved to lose nothing; `From` goes only to what holds every value.
-pub(crate) fn in_units(units: u64) -> Deceleration
-    requires { units ≤ 1000000000 }
-    ensures { result.units ≡ pos units }
-{
-    Deceleration {
-        units: units as i64,
     }
 }

@@ -1,13 +1,15 @@
 ghost use Rattle.sheet.specs.declared.words.Model.TheVariants.{Etcs as EtcsName};
 
-use crate::deceleration::{counted, in_units, starting, targeting};
-use crate::fit_values::FitValues;
+use crate::admissible_values::AdmissibleValues;
+use crate::deceleration::{base_deceleration, kr_factor, target_factor};
 use crate::numbers;
 use crate::railway::Railway;
 use crate::rules::Rules;
+use crate::share::Share;
 use braking::{Approach, TopSpeed};
 use sheet::Regime;
-use units::{Deceleration, Speed};
+use stopping::BrakeDeceleration;
+use units::{Speed, Time};
 
 // The rules of ETCS baseline 2.
 #[derive(Clone, Copy, Debug, PartialEq, Eq)]
@@ -30,23 +32,22 @@ impl Rules for EtcsRules {
     }
 
     // As the sheet has it.
-    fn counts_ep(sheet: &FitValues) -> bool {
+    fn counts_ep(sheet: &AdmissibleValues) -> bool {
         sheet.has_ep()
     }
 
-    fn pipe_share(_sheet: &FitValues, _approach: Approach) -> u64 {
+    fn pipe_share(_sheet: &AdmissibleValues, _approach: Approach) -> Share {
         numbers::ETCS_SHARE
     }
 
-    fn delay() -> u64 {
+    fn delay() -> Time {
         numbers::ETCS_DELAY
     }
 
     // Of the five factors only two are not 1.
-    fn braking(sheet: &FitValues, approach: Approach) -> Deceleration {
-        let starting = starting(sheet);
-        let shared = counted(sheet).scale(starting);
-        let targeted = targeting(approach).scale(shared);
-        in_units(targeted)
+    fn brake_deceleration(sheet: &AdmissibleValues, approach: Approach) -> BrakeDeceleration {
+        let base = base_deceleration(sheet);
+        let by_kr = kr_factor(sheet).scale(base);
+        target_factor(approach).scale(by_kr)
     }
 }

@@ -1,58 +1,65 @@
-// The numbers of the two models, but for the top speeds and the table of VL, which stand with each model's rules, and the scales of the factors. A maker's own numbers would take the place of these.
+// The numbers of the two models, but for the top speeds, the table of VL, and the scales of the factors, which stand where they are used.
 
-use units::Speed;
+use crate::pipe_length::{FillingTime, PipeLength};
+use crate::pipe_time::PipeTime;
+use crate::share::Share;
+use units::{Speed, Time};
 
-// h, in ticks
-pub const SCMT_DELAY: u64 = 70_000_000;
+// How long the equipment takes to call for the brake.
+pub(crate) const SCMT_DELAY: Time = Time { ticks: 70_000_000 };
 
-pub const ETCS_DELAY: u64 = 100_000_000;
+pub(crate) const ETCS_DELAY: Time = Time { ticks: 100_000_000 };
 
-// Dt, in hundredths
-pub const FULL_SHARE: u64 = 100;
+// What is counted of the pipe time: by scmt in general and near the target speed, and by etcs.
+pub(crate) const FULL_SHARE: Share = Share { hundredths: 100 };
 
-pub const GOODS_NEAR_SHARE: u64 = 30;
+pub(crate) const PASSENGER_NEAR_SHARE: Share = Share { hundredths: 0 };
 
-pub const ETCS_SHARE: u64 = 130;
+pub(crate) const GOODS_NEAR_SHARE: Share = Share { hundredths: 30 };
 
-// D, in tenths of km/h
-pub const PASSENGER_WIDTH: u64 = 300;
+pub(crate) const ETCS_SHARE: Share = Share { hundredths: 130 };
 
-pub const GOODS_TRAIN_WIDTH: u64 = 200;
+// How far above the target speed scmt takes the train to be near it.
+pub(crate) const PASSENGER_WIDTH: Speed = Speed { tenths: 300 };
 
-pub const GOODS_BRAKE_WIDTH: u64 = 150;
+pub(crate) const GOODS_TRAIN_WIDTH: Speed = Speed { tenths: 200 };
 
-// N where it is fixed, in m
-pub const PASSENGER_LENGTH: u64 = 650;
+pub(crate) const GOODS_BRAKE_WIDTH: Speed = Speed { tenths: 150 };
 
-pub const GOODS_LENGTH: u64 = 1_000;
+// The length that the brake pipe is taken to have where the brake setting fixes it.
+pub(crate) const PASSENGER_LENGTH: PipeLength = PipeLength { metres: 650 };
 
-// whether scmt counts the electro-pneumatic brake
-pub const SCMT_EP: bool = false;
+pub(crate) const GOODS_LENGTH: PipeLength = PipeLength { metres: 1_000 };
 
-// the pipe times, in millionths of a second, and what a square metre adds
-pub const PASSENGER_PIPE: u64 = 3_500_000;
+// Whether scmt counts the electro-pneumatic brake.
+pub(crate) const SCMT_EP: bool = false;
 
-pub const PASSENGER_PIPE_SQUARE: u64 = 15;
+// How long the brake pipe takes to fill.
+pub(crate) const PASSENGER_FILLING: FillingTime = FillingTime {
+    empty: PipeTime { micros: 3_500_000 },
+    square_metre: PipeTime { micros: 15 },
+};
 
-pub const GOODS_PIPE: u64 = 13_500_000;
+pub(crate) const GOODS_FILLING: FillingTime = FillingTime {
+    empty: PipeTime { micros: 13_500_000 },
+    square_metre: PipeTime { micros: 4 },
+};
 
-pub const GOODS_PIPE_SQUARE: u64 = 4;
+// The deceleration by lambda: so many hundreds of units for each percent, and so many more.
+pub(crate) const LAMBDA_SLOPE: u64 = 685;
 
-// the deceleration by lambda, in hundreds of units
-pub const LAMBDA_SLOPE: u64 = 685;
+pub(crate) const LAMBDA_REST: u64 = 9_400;
 
-pub const LAMBDA_REST: u64 = 9_400;
+// How a factor of scmt falls above VL, in hundred-thousandths for a tenth of km/h.
+pub(crate) const FADING: u64 = 21;
 
-// how a factor of scmt falls above VL, in hundred-thousandths for a tenth of km/h
-pub const FADING: u64 = 21;
+// Above which speed the third and the fourth factor hold.
+pub(crate) const HIGH_SPEED: Speed = Speed { tenths: 1_500 };
 
-// above which speed the third and the fourth factor hold
-pub const FAST: Speed = Speed { tenths: 1_500 };
+pub(crate) const VERY_HIGH_SPEED: Speed = Speed { tenths: 2_600 };
 
-pub const VERY_FAST: Speed = Speed { tenths: 2_600 };
+// The fourth factor, in hundredths.
+pub(crate) const VERY_HIGH_SPEED_SHARE: u64 = 80;
 
-// the fourth factor, in hundredths
-pub const VERY_FAST_SHARE: u64 = 80;
-
-// what the target speed takes off, in hundredths
-pub const TARGET_SHARE: u64 = 5;
+// What the target speed takes off, in hundredths of itself.
+pub(crate) const TARGET_SHARE: u64 = 5;

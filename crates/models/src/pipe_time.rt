@@ -1,6 +1,6 @@
-ghost use Rattle.std.specs.Prelude.{◌≡◌, ◌+◌, ◌*◌, ◌≤◌};
+ghost use Rattle.std.specs.Prelude.{◌≡◌, ◌*◌, ◌≤◌};
 
-use stopping::ReactionTime;
+use crate::share::Share;
 use units::Time;
 
 // A time of the brake pipe in millionths of a second, at most 18.5 s.
@@ -11,16 +11,12 @@ pub(crate) struct PipeTime {
 }
 
 impl PipeTime {
-    // A share of the time, in hundredths, and the delay of the equipment, in ticks: a hundredth of a millionth of a second is a tick.
-    pub(crate) fn delayed(self, share: u64, delay: u64) -> ReactionTime
-        requires share { share ≤ 200 }
-        requires delay { delay ≤ 500000000 }
-        ensures { result.time.ticks ≡ share * self.micros + delay }
+    // A share of the time, with nothing rounded: a hundredth of a millionth of a second is a tick.
+    pub(crate) fn share(self, share: Share) -> Time
+        ensures { result.ticks ≡ share.hundredths * self.micros }
     {
-        ReactionTime {
-            time: Time {
-                ticks: share * self.micros + delay,
-            },
+        Time {
+            ticks: share.hundredths * self.micros,
         }
     }
 }

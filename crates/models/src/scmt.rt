@@ -2,15 +2,20 @@ ghost use Rattle.std.specs.Prelude.{◌≡◌, ◌<◌, slice_index};
 ghost use Rattle.sheet.specs.declared.words.Model.TheVariants.{Scmt as ScmtName};
 ghost use Rattle.models.specs.Vl.{Greatest, entries, vl};
 
-use crate::deceleration::{counted, fading, faster, fastest, in_units, starting, targeting};
-use crate::fit_values::FitValues;
+use crate::admissible_values::AdmissibleValues;
+use crate::deceleration::{
+    base_deceleration, fading_factor, high_speed_factor, kr_factor, target_factor,
+    very_high_speed_factor,
+};
 use crate::numbers;
 use crate::railway::Railway;
 use crate::rules::Rules;
+use crate::share::Share;
 use crate::shares::scmt_share;
 use braking::{Approach, TopSpeed};
 use sheet::Regime;
-use units::{Deceleration, Speed};
+use stopping::BrakeDeceleration;
+use units::{Speed, Time};
 
 // The rules of the Italian SCMT.
 #[derive(Clone, Copy, Debug, PartialEq, Eq)]
@@ -19,35 +24,34 @@ pub struct ScmtRules;
 // The Italian SCMT model, with the values of an admitted sheet.
 pub type Scmt = Railway<ScmtRules>;
 
-// VL at lambda 45, 50 and so on up to 160.
+// VL in tenths of km/h, at lambda 45, 50 and so on up to 160.
 const FADING_SPEEDS: [u16; 24] = [
     873, 914, 954, 991, 1027, 1061, 1094, 1126, 1157, 1186, 1215, 1243, 1270, 1297, 1323, 1348,
     1372, 1396, 1420, 1443, 1466, 1488, 1510, 1531,
 ];
 
 // VL at a place of the table.
-fn entry_at(place: u16) -> u16
+fn entry_at(place: u16) -> Speed
     requires { place < 24 }
-    ensures { result ≡ slice_index entries place }
+    ensures { result.tenths ≡ slice_index entries place }
 {
-    FADING_SPEEDS[usize::from(place)]
+    Speed {
+        tenths: u64::from(FADING_SPEEDS[usize::from(place)]),
+    }
 }
 
-impl FitValues {
+impl AdmissibleValues {
     // VL by lambda.
     fn fading_speed(&self) -> Speed
         ensures value { result.tenths ≡ vl self.now.values.lambda }
         ensures rule { Greatest self.now.values.lambda result.tenths }
     {
-        let place = (self.values.lambda - 45) / 5;
-        Speed {
-            tenths: u64::from(entry_at(place)),
-        }
+        entry_at((self.values.lambda - 45) / 5)
     }
 }
 
 impl Railway<ScmtRules> {
-    // VL, the speed above which the brake fades.
+    // VL, the speed above which the brake fades: 161.7 times lambda to the 0.443, in tenths of km/h and rounded down.
     pub fn fading_speed(&self) -> Speed
         ensures value { result.tenths ≡ vl self.now.sheet.values.lambda }
         ensures rule { Greatest self.now.sheet.values.lambda result.tenths }
@@ -70,26 +74,24 @@ impl Rules for ScmtRules {
     }
 
     // Never, whatever the sheet has.
-    fn counts_ep(_sheet: &FitValues) -> bool {
+    fn counts_ep(_sheet: &AdmissibleValues) -> bool {
         numbers::SCMT_EP
     }
 
-    fn pipe_share(sheet: &FitValues, approach: Approach) -> u64 {
+    fn pipe_share(sheet: &AdmissibleValues, approach: Approach) -> Share {
         scmt_share(sheet.values.train, sheet.values.brake, approach)
     }
 
-    fn delay() -> u64 {
+    fn delay() -> Time {
         numbers::SCMT_DELAY
     }
 
-    // All five factors, each by its name, as the rule has them: a fold over a list of them would be no shorter.
-    fn braking(sheet: &FitValues, approach: Approach) -> Deceleration {
-        let starting = starting(sheet);
-        let faded = fading(sheet.fading_speed(), approach).scale(starting);
-        let shared = counted(sheet).scale(faded);
-        let fast = faster(approach).scale(shared);
-        let very_fast = fastest(approach).scale(fast);
-        let targeted = targeting(approach).scale(very_fast);
-        in_units(targeted)
+    fn brake_deceleration(sheet: &AdmissibleValues, approach: Approach) -> BrakeDeceleration {
+        let base = base_deceleration(sheet);
+        let by_fading = fading_factor(sheet.fading_speed(), approach).scale(base);
+        let by_kr = kr_factor(sheet).scale(by_fading);
+        let by_high_speed = high_speed_factor(approach).scale(by_kr);
+        let by_very_high_speed = very_high_speed_factor(approach).scale(by_high_speed);
+        target_factor(approach).scale(by_very_high_speed)
     }
 }

@@ -1,8 +1,10 @@
 ghost use Rattle.std.specs.Prelude.{◌≡◌};
 ghost use Rattle.braking.specs.Answers.{question_of};
-ghost use Rattle.models.specs.Meanings.{meaning_of};
+ghost use Rattle.models.specs.Meanings.{meaning_of, stop_for};
 ghost use Rattle.models.specs.Named.{name_of, values_of};
-ghost use Rattle.models.specs.Shown.{Shown};
+ghost use Rattle.models.specs.Formulas.{top};
+ghost use Rattle.models.specs.Laws.{NeverCut};
+ghost use Rattle.stopping.specs.Steps.{GivesSteps};
 ghost use Rattle.sheet.specs.declared.words.Model.TheVariants.{Scmt, Etcs};
 ghost use Rattle.models.specs.declared.sheet_model.SheetModel.TheVariants.{Scmt as AsScmt, Etcs as AsEtcs};
 ghost use Rattle.models.specs.Lawfulness.{model_lawful};
@@ -14,7 +16,7 @@ use braking::{BrakingModel, Distances, Question, Refusal, TopSpeed};
 use sheet::{Admitted, Model};
 use stopping::Steps;
 
-// All but `new` hand a call on to the model that is there: a match over two types, plainer than a boxed one, and with no heap.
+// All but `new` hand a call on to the model that is there.
 impl SheetModel {
     // The model that an admitted sheet names, with its values.
     pub fn new(sheet: &Admitted) -> SheetModel
@@ -27,9 +29,10 @@ impl SheetModel {
         }
     }
 
-    // The steps from a question to its answer, or why it is turned down.
+    // The steps from a question to its answer, or the first reason why it is turned down.
     pub fn steps(&self, question: Question) -> Result<Steps, Refusal>
-        ensures { Shown (name_of self.now) (values_of self.now) (question_of question) result }
+        ensures steps { GivesSteps (top (name_of self.now) (values_of self.now).regime) (stop_for (name_of self.now) (values_of self.now)) (question_of question) result }
+        ensures uncut { NeverCut (name_of self.now) (values_of self.now) }
     {
         match self {
             SheetModel::Scmt(model) => model.steps(question),
@@ -42,8 +45,8 @@ impl BrakingModel for SheetModel {
     ghost meaning = { λ m. meaning_of (name_of m) (values_of m) };
 
     ghost lawful = { elim [
-      | AsScmt m ↦ model_lawful Scmt m.sheet.values m.sheet.fine
-      | AsEtcs m ↦ model_lawful Etcs m.sheet.values m.sheet.fine
+      | AsScmt m ↦ model_lawful Scmt m.sheet.values m.sheet.valid
+      | AsEtcs m ↦ model_lawful Etcs m.sheet.values m.sheet.valid
     ] };
 
     fn top_speed(&self) -> TopSpeed {

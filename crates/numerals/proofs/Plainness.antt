@@ -5,51 +5,51 @@ use Rattle.std.proofs.lemmas.Bool.{cases_lt}
 use Rattle.std.proofs.lemmas.Str.Parse.{IsNumeralModel, numerals_by_value, tells_by_index, digits_value_short}
 use Rattle.std.proofs.lemmas.Fmt.{decimal_digit, decimal_nonempty, first_decimal, digits_decimal, digits_value-decimal, decimal-digits_value}
 use Rattle.numerals.specs.Digits.{AllDigits}
-use Rattle.numerals.specs.Numerals.{Writes, Read, ZeroLeads, Plain, ReadPlain, Small}
+use Rattle.numerals.specs.Numerals.{Writes, NumberRead, HasLeadingZero, IsPlain, PlainRead, HasAtMostTenDigits}
 use Rattle.numerals.proofs.Spelling.{under_ten_digits}
 
-pub own : IsNumeralModel AllDigits (digits_value 10)
-own = numerals_by_value AllDigits tells_by_index
+pub numeral_model : IsNumeralModel AllDigits (digits_value 10)
+numeral_model = numerals_by_value AllDigits tells_by_index
 
-pub plain_small : (most : ℕ) (bytes : List ℕ) → Plain most bytes → digits_value 10 bytes < 10 ^ 10
-plain_small most bytes p = digits_value_short own bytes 10 p.digits p.sized.short
+pub plain_small : (max_digits : ℕ) (bytes : List ℕ) → IsPlain max_digits bytes → digits_value 10 bytes < 10 ^ 10
+plain_small max_digits bytes p = digits_value_short numeral_model bytes 10 p.digits p.sized.short
 
-alone : (bytes : List ℕ) → 0 < length bytes → (ZeroLeads bytes → ⊥) → get_or bytes 0 0 ≡ 48 → length bytes ≡ 1
+alone : (bytes : List ℕ) → 0 < length bytes → (HasLeadingZero bytes → ⊥) → get_or bytes 0 0 ≡ 48 → length bytes ≡ 1
 alone bytes some single z = ⊎_elim (λ l. absurd (single (l, z))) (λ l. omega arith) (cases_lt 1 (length bytes))
 
 -- plain digits write their value
-pub plain_writes : (most : ℕ) (bytes : List ℕ) → Plain most bytes → Writes most (digits_value 10 bytes) bytes
-plain_writes most bytes p = record {
-  written = sym (decimal-digits_value own bytes p.digits (omega (arith, p.sized.some)) (alone bytes (omega (arith, p.sized.some)) p.no_lead) (omega (arith, plain_small most bytes p)));
+pub plain_writes : (max_digits : ℕ) (bytes : List ℕ) → IsPlain max_digits bytes → Writes max_digits (digits_value 10 bytes) bytes
+plain_writes max_digits bytes p = record {
+  written = sym (decimal-digits_value numeral_model bytes p.digits (omega (arith, p.sized.some)) (alone bytes (omega (arith, p.sized.some)) p.no_lead) (omega (arith, plain_small max_digits bytes p)));
   within = p.sized.within;
   short = p.sized.short;
 }
 
 -- no 0 stands in front of the written digits of a number, unless alone
-no_zero : (n : ℕ) → n < 10 ^ 10 → ZeroLeads (decimal n) → ⊥
+no_zero : (n : ℕ) → n < 10 ^ 10 → HasLeadingZero (decimal n) → ⊥
 no_zero n h z = ⊎_elim
     (λ l. omega (arith, ap length (decimal_digit n (omega arith)), z.0))
     (λ l. omega (arith, first_decimal n (omega arith) (omega arith), z.1))
     (cases_lt n 1)
 
 -- bytes that write a number are plain digits, and it is their value
-pub writes_plain : (most n : ℕ) (bytes : List ℕ) → Writes most n bytes → Plain most bytes × (n ≡ digits_value 10 bytes)
-writes_plain most n bytes w =
+pub writes_plain : (max_digits n : ℕ) (bytes : List ℕ) → Writes max_digits n bytes → IsPlain max_digits bytes × (n ≡ digits_value 10 bytes)
+writes_plain max_digits n bytes w =
     let e : bytes ≡ decimal n = w.written in
     let small : n < 10 ^ 10 = under_ten_digits n (omega (arith, ap length e, w.short)) in (
       record {
-        digits = subst AllDigits (sym e) (digits_decimal own n (omega arith));
+        digits = subst AllDigits (sym e) (digits_decimal numeral_model n (omega arith));
         sized = record { some = omega (arith, ap length e, decimal_nonempty n (omega arith)); within = w.within; short = w.short };
-        no_lead = subst (λ (b : List ℕ). ZeroLeads b → ⊥) (sym e) (no_zero n small);
+        no_lead = subst (λ (b : List ℕ). HasLeadingZero b → ⊥) (sym e) (no_zero n small);
       },
-      sym (ap (digits_value 10) e ∙ digits_value-decimal own n (omega arith)),
+      sym (ap (digits_value 10) e ∙ digits_value-decimal numeral_model n (omega arith)),
     )
 
 -- what is said of plain digits is said of written numbers
-pub read_from_plain : (most : ℕ) (bytes : List ℕ) (r : Option ℕ) → ReadPlain most bytes r → Read most bytes r
-read_from_plain most bytes (Some n) h = subst (λ (m : ℕ). Writes most m bytes) (sym h.1) (plain_writes most bytes h.0)
-read_from_plain most bytes None h = λ n w. h (writes_plain most n bytes w).0
+pub read_from_plain : (max_digits : ℕ) (bytes : List ℕ) (r : Option ℕ) → PlainRead max_digits bytes r → NumberRead max_digits bytes r
+read_from_plain max_digits bytes (Some n) h = subst (λ (m : ℕ). Writes max_digits m bytes) (sym h.1) (plain_writes max_digits bytes h.0)
+read_from_plain max_digits bytes None h = λ n w. h (writes_plain max_digits n bytes w).0
 
-pub small_from_plain : (most : ℕ) (bytes : List ℕ) (r : Option ℕ) → ReadPlain most bytes r → Small r
-small_from_plain most bytes (Some n) h = omega (arith, h.1, plain_small most bytes h.0)
-small_from_plain most bytes None h = tt
+pub small_from_plain : (max_digits : ℕ) (bytes : List ℕ) (r : Option ℕ) → PlainRead max_digits bytes r → HasAtMostTenDigits r
+small_from_plain max_digits bytes (Some n) h = omega (arith, h.1, plain_small max_digits bytes h.0)
+small_from_plain max_digits bytes None h = tt

@@ -2,34 +2,34 @@
 use Rattle.std.proofs.Common.{◌≡◌, ℕ, ◌-◌, List, ◌++◌, length, take, drop, Some, None, decimal, Option, sym, refl, ap, ◌∙◌, subst, arith}
 use Rattle.std.proofs.lemmas.List.{drop_at, take_at, length-take-le}
 use Rattle.std.proofs.lemmas.Fmt.{length-decimal-le}
-use Rattle.numerals.specs.Numerals.{Writes, Read}
-use Rattle.numerals.specs.Writing.{Stand}
-use Rattle.numerals.specs.Laws.{Readable, There, Back, WrittenIsRead}
+use Rattle.numerals.specs.Numerals.{Writes, NumberRead}
+use Rattle.numerals.specs.Writing.{DigitsStand}
+use Rattle.numerals.specs.Laws.{IsReadable, ReadsOwnDigits, HasOneText, WrittenIsRead}
 use Rattle.numerals.proofs.Plainness.{writes_plain}
 
 -- bytes that write a number are read as it
-reads : (most n : ℕ) (bytes : List ℕ) (r : Option ℕ) → Writes most n bytes → Read most bytes r → r ≡ Some n
-reads most n bytes (Some m) w h = ap Some ((writes_plain most m bytes h).1 ∙ sym (writes_plain most n bytes w).1)
-reads most n bytes None w h = absurd (h n w)
+reads : (max_digits n : ℕ) (bytes : List ℕ) (r : Option ℕ) → Writes max_digits n bytes → NumberRead max_digits bytes r → r ≡ Some n
+reads max_digits n bytes (Some m) w h = ap Some ((writes_plain max_digits m bytes h).1 ∙ sym (writes_plain max_digits n bytes w).1)
+reads max_digits n bytes None w h = absurd (h n w)
 
 -- the digits of a number that is small enough write it
-writes : (most n : ℕ) → Readable most n → Writes most n (decimal n)
-writes most n k = record {
+writes : (max_digits n : ℕ) → IsReadable max_digits n → Writes max_digits n (decimal n)
+writes max_digits n k = record {
   written = refl;
-  within = length-decimal-le most n (omega (arith, k.one)) k.within (omega (arith, k.short));
+  within = length-decimal-le max_digits n (omega (arith, k.one)) k.within (omega (arith, k.short));
   short = length-decimal-le 10 n (omega arith) k.short (omega (arith, k.short));
 }
 
-pub there : There
-unfolding There
-there most n r k h = reads most n (decimal n) r (writes most n k) h
+pub own_digits : ReadsOwnDigits
+unfolding ReadsOwnDigits
+own_digits max_digits n r k h = reads max_digits n (decimal n) r (writes max_digits n k) h
 
-pub back : Back
-unfolding Back
-back most other n bytes text h k = k.written ∙ sym h.written
+pub one_text : HasOneText
+unfolding HasOneText
+one_text max_digits other n bytes text h k = k.written ∙ sym h.written
 
 -- the digits are what lies between `at` and the end
-between : (before after : List ℕ) (at n end : ℕ) → Stand before at n after end → take (end - at) (drop at after) ≡ decimal n
+between : (before after : List ℕ) (at n end : ℕ) → DigitsStand before at n after end → take (end - at) (drop at after) ≡ decimal n
 between before after at n end w =
     let front : length (take at before) ≡ at = length-take-le at before (omega (arith, w.ends, w.fits)) in
     let count : length (decimal n) ≡ end - at = omega (arith, w.ends) in
@@ -38,4 +38,4 @@ between before after at n end w =
 
 pub written_is_read : WrittenIsRead
 unfolding WrittenIsRead
-written_is_read before after at n end most r k w h = reads most n (decimal n) r (writes most n k) (subst (λ (bytes : List ℕ). Read most bytes r) (between before after at n end w) h)
+written_is_read before after at n end max_digits r k w h = reads max_digits n (decimal n) r (writes max_digits n k) (subst (λ (bytes : List ℕ). NumberRead max_digits bytes r) (between before after at n end w) h)

@@ -10,12 +10,12 @@ IsDigit byte = (48 ≤ byte) × (byte ≤ 57)
 abbrev pub AllDigits : List ℕ → Type 0
 AllDigits bytes = (i : ℕ) → i < length bytes → IsDigit (slice_index bytes i)
 
--- What a byte stands for: from 0 to 9 if it is a digit, else nothing.
-abbrev pub Stands : ℕ → Option ℕ → Type 0
-Stands byte (Some d) = IsDigit byte × (byte ≡ 48 + d)
-Stands byte None = IsDigit byte → ⊥
+-- What reading one byte answers: 0 to 9 if it is a digit, else nothing.
+abbrev pub DigitRead : ℕ → Option ℕ → Type 0
+DigitRead byte (Some d) = IsDigit byte × (byte ≡ 48 + d)
+DigitRead byte None = IsDigit byte → ⊥
 
--- What a row of bytes makes: its value if all are digits, else nothing.
-abbrev pub Makes : List ℕ → Option ℕ → Type 0
-Makes bytes (Some n) = AllDigits bytes × (n ≡ digits_value 10 bytes)
-Makes bytes None = AllDigits bytes → ⊥
+-- What reading a row of bytes answers: its value if all are digits, else nothing.
+abbrev pub DigitsRead : List ℕ → Option ℕ → Type 0
+DigitsRead bytes (Some n) = AllDigits bytes × (n ≡ digits_value 10 bytes)
+DigitsRead bytes None = AllDigits bytes → ⊥

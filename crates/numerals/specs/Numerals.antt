@@ -3,39 +3,39 @@ use Rattle.std.specs.Prelude.{◌≡◌, ℕ, ◌^◌, ◌<◌, ◌≤◌, List,
 use Rattle.std.specs.Str.Parse.{digits_value}
 use Rattle.numerals.specs.Digits.{AllDigits}
 
--- The bytes are the written digits of n, at most `most` of them and never more than 10.
-pub record Writes (most n : ℕ) (bytes : List ℕ) : Type 0 where
+-- The bytes are the written digits of n, at most `max_digits` of them and never more than 10.
+pub record Writes (max_digits n : ℕ) (bytes : List ℕ) : Type 0 where
   pub written : bytes ≡ decimal n
-  pub within : length bytes ≤ most
+  pub within : length bytes ≤ max_digits
   pub short : length bytes ≤ 10
 
 -- What reading answers: the number that the bytes write, or nothing where they write none at all.
-abbrev pub Read : ℕ → List ℕ → Option ℕ → Type 0
-Read most bytes (Some n) = Writes most n bytes
-Read most bytes None = (n : ℕ) → Writes most n bytes → ⊥
+abbrev pub NumberRead : ℕ → List ℕ → Option ℕ → Type 0
+NumberRead max_digits bytes (Some n) = Writes max_digits n bytes
+NumberRead max_digits bytes None = (n : ℕ) → Writes max_digits n bytes → ⊥
 
--- One to `most` bytes, and never more than 10.
-pub record Sized (most count : ℕ) : Type 0 where
+-- A number of so many digits is read: one to `max_digits`, and never more than 10.
+pub record IsDigitCount (max_digits count : ℕ) : Type 0 where
   pub some : 1 ≤ count
-  pub within : count ≤ most
+  pub within : count ≤ max_digits
   pub short : count ≤ 10
 
 -- A '0' stands in front of further bytes.
-abbrev pub ZeroLeads : List ℕ → Type 0
-ZeroLeads bytes = (1 < length bytes) × (slice_index bytes 0 ≡ 48)
+abbrev pub HasLeadingZero : List ℕ → Type 0
+HasLeadingZero bytes = (1 < length bytes) × (slice_index bytes 0 ≡ 48)
 
 -- Plain digits: every byte is one, there are not too many, and a 0 stands in front only where it stands alone.
-pub record Plain (most : ℕ) (bytes : List ℕ) : Type 0 where
+pub record IsPlain (max_digits : ℕ) (bytes : List ℕ) : Type 0 where
   pub digits : AllDigits bytes
-  pub sized : Sized most (length bytes)
-  pub no_lead : ZeroLeads bytes → ⊥
+  pub sized : IsDigitCount max_digits (length bytes)
+  pub no_lead : HasLeadingZero bytes → ⊥
 
 -- The same answer in other words: the value of plain digits, or nothing where they are not plain.
-abbrev pub ReadPlain : ℕ → List ℕ → Option ℕ → Type 0
-ReadPlain most bytes (Some n) = Plain most bytes × (n ≡ digits_value 10 bytes)
-ReadPlain most bytes None = Plain most bytes → ⊥
+abbrev pub PlainRead : ℕ → List ℕ → Option ℕ → Type 0
+PlainRead max_digits bytes (Some n) = IsPlain max_digits bytes × (n ≡ digits_value 10 bytes)
+PlainRead max_digits bytes None = IsPlain max_digits bytes → ⊥
 
 -- A number that is read has at most 10 digits.
-abbrev pub Small : Option ℕ → Type 0
-Small (Some n) = n < 10 ^ 10
-Small None = Unit {0}
+abbrev pub HasAtMostTenDigits : Option ℕ → Type 0
+HasAtMostTenDigits (Some n) = n < 10 ^ 10
+HasAtMostTenDigits None = Unit {0}

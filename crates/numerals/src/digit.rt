@@ -1,14 +1,14 @@
 ghost use Rattle.std.specs.Prelude.{◌≡◌, ◌+◌, ◌%◌};
-ghost use Rattle.numerals.specs.Digits.{Stands};
+ghost use Rattle.numerals.specs.Digits.{DigitRead};
 
-// What a byte stands for, if it is a digit. Alike to `end_within` by chance: a checked step and a filter.
+// The value of a byte that is a digit, 0 to 9.
 pub(crate) fn digit_value(byte: u8) -> Option<u8>
-    ensures { Stands byte result }
+    ensures { DigitRead byte result }
 {
     byte.checked_sub(b'0').filter(|digit| *digit <= 9)
 }
 
-// The byte of the last digit of a number. The cast is proved to lose nothing, where `try_from` would add a case that cannot come.
+// The byte of the last decimal digit of a number. The cast loses nothing, since a remainder is below 10.
 pub(crate) fn last_digit(number: u64) -> u8
     ensures { result ≡ 48 + number % 10 }
 {

@@ -1,44 +1,44 @@
 ghost use Rattle.std.specs.Prelude.{◌≡◌, ◌≤◌, ◌↔◌, IsTrue, length};
-ghost use Rattle.numerals.specs.Digits.{Makes};
-ghost use Rattle.numerals.specs.Numerals.{Read, ReadPlain, Sized, Small, ZeroLeads};
-ghost use Rattle.numerals.specs.Laws.{There, Back};
+ghost use Rattle.numerals.specs.Digits.{DigitsRead};
+ghost use Rattle.numerals.specs.Numerals.{NumberRead, PlainRead, IsDigitCount, HasAtMostTenDigits, HasLeadingZero};
+ghost use Rattle.numerals.specs.Laws.{ReadsOwnDigits, HasOneText};
 
 use crate::digit::digit_value;
 
-// No number is read that has more digits.
-const MOST_DIGITS: usize = 10;
+// No number of more digits is read, whatever the caller allows.
+const MAX_DIGITS: usize = 10;
 
-// The number that the bytes write, in 1 to `most` digits and never more than 10; a 0 in front only as 0 itself.
-pub fn read_number(bytes: &[u8], most: usize) -> Option<u64>
-    ensures read { Read most bytes.now result }
-    ensures digits { ReadPlain most bytes.now result }
-    ensures small { Small result }
-    ensures there { There }
-    ensures back { Back }
+// The number that the bytes write in decimal: 1 to `max_digits` digits and never more than 10, with a 0 in front only as 0 itself. All else is `None`.
+pub fn read_number(bytes: &[u8], max_digits: usize) -> Option<u64>
+    ensures read { NumberRead max_digits bytes.now result }
+    ensures digits { PlainRead max_digits bytes.now result }
+    ensures small { HasAtMostTenDigits result }
+    ensures own_digits { ReadsOwnDigits }
+    ensures one_text { HasOneText }
 {
-    read_plain(bytes, most)
+    read_plain(bytes, max_digits)
 }
 
 // The value of the bytes, if they are plain digits.
-fn read_plain(bytes: &[u8], most: usize) -> Option<u64>
-    ensures { ReadPlain most bytes.now result }
+fn read_plain(bytes: &[u8], max_digits: usize) -> Option<u64>
+    ensures { PlainRead max_digits bytes.now result }
 {
-    if !is_sized(bytes.len(), most) || zero_leads(bytes) {
+    if !is_digit_count(bytes.len(), max_digits) || has_leading_zero(bytes) {
         return None;
     }
     read_digits(bytes)
 }
 
-// Whether so many digits are read.
-fn is_sized(count: usize, most: usize) -> bool
-    ensures { IsTrue result ↔ Sized most count }
+// Whether a number of so many digits is read.
+fn is_digit_count(count: usize, max_digits: usize) -> bool
+    ensures { IsTrue result ↔ IsDigitCount max_digits count }
 {
-    (1..=most.min(MOST_DIGITS)).contains(&count)
+    (1..=max_digits.min(MAX_DIGITS)).contains(&count)
 }
 
 // Whether a 0 stands in front of further bytes.
-fn zero_leads(bytes: &[u8]) -> bool
-    ensures { IsTrue result ↔ ZeroLeads bytes.now }
+fn has_leading_zero(bytes: &[u8]) -> bool
+    ensures { IsTrue result ↔ HasLeadingZero bytes.now }
 {
     matches!(bytes, [b'0', _, ..])
 }
@@ -46,7 +46,7 @@ fn zero_leads(bytes: &[u8]) -> bool
 // The value of the bytes, if all are digits.
 fn read_digits(bytes: &[u8]) -> Option<u64>
     requires { length bytes.now ≤ 10 }
-    ensures { Makes bytes.now result }
+    ensures { DigitsRead bytes.now result }
 {
     let mut number = 0;
     for byte in bytes {

@@ -16,9 +16,9 @@ loan_of l = l.memory.ghost_name
 abbrev pub sequence : {T : Type 0} → PlaceList T → List (Placed T)
 sequence l = take l.len (memory_of l)
 
--- How many items fit: as many as the memory holds, and no more than the most.
+-- How many items fit: as many as the memory holds, and no more than its greatest length.
 abbrev pub capacity : {T : Type 0} → PlaceList T → ℕ
-capacity l = min l.most (length (memory_of l))
+capacity l = min l.max_len (length (memory_of l))
 
 -- How many more items fit.
 abbrev pub room : {T : Type 0} → PlaceList T → ℕ
@@ -30,10 +30,10 @@ pub record Unaltered {T : Type 0} (before after : PlaceList T) : Type 0 where
   pub room_same : room after ≡ room before
   pub memory_same : memory_of after ≡ memory_of before
 
--- What a call keeps in any case: the most, the memory's length, whose loan it is,
+-- What a call keeps in any case: the greatest length, the memory's length, whose loan it is,
 -- and what the memory holds behind the items that are in use after the call.
 pub record Kept {T : Type 0} (before after : PlaceList T) : Type 0 where
-  pub most_same : after.most ≡ before.most
+  pub max_len_same : after.max_len ≡ before.max_len
   pub length_same : length (memory_of after) ≡ length (memory_of before)
   pub loan_same : loan_of after ≡ loan_of before
   pub rest_same : drop after.len (memory_of after) ≡ drop after.len (memory_of before)

@@ -11,15 +11,15 @@ mod removal;
 use crate::placed::Placed;
 
 // Items in memory that the caller lends, in the order of their places.
-// No Vec, since a mission uses no heap. No Model either: the contracts speak of the room, the loan and the memory behind the items too.
+// It is no `Vec`, since a mission uses no heap. It has no `Model`, since the contracts speak of the room, the loan and the memory behind the items too.
 #[derive(Drop)]
 pub struct PlaceList<'a, T> {
     memory: &'a mut [Placed<T>],
     // how much of the memory is in use, from its start
     len: usize,
     // how many items are allowed, however long the memory
-    most: usize,
+    max_len: usize,
     ghost within: { len ≤ length memory.now },
-    ghost allowed: { len ≤ most },
+    ghost allowed: { len ≤ max_len },
     ghost ascending: { ascends place_of (take len memory.now) ≡ true },
 }

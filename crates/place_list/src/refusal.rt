@@ -10,7 +10,6 @@ pub enum Refusal {
 
 impl Refusal {
     // The number by which a refusal is reported.
-    // A cast of this type's own numbers: a trait for all such types would want the same line in each impl.
     pub fn number(&self) -> u8
         ensures { result ≡ number self.now }
     {

@@ -12,15 +12,15 @@ use tour::{go_round, lend, offer, show};
 use units::Distance;
 
 fn main(rt: HostRuntime) -> io::Result<()> {
-    boards(&rt)?;
-    lamps(&rt)?;
-    no_memory(&rt)?;
-    nothing_allowed(&rt)?;
-    given_back(&rt)
+    fill_boards(&rt)?;
+    fill_lamps(&rt)?;
+    offer_without_memory(&rt)?;
+    offer_where_none_is_allowed(&rt)?;
+    give_back(&rt)
 }
 
 // Speed boards: memory for four, three allowed.
-fn boards(rt: &impl Print) -> io::Result<()> {
+fn fill_boards(rt: &impl Print) -> io::Result<()> {
     println!(rt; "boards")?;
     let none = Board {
         number: 0,
@@ -41,7 +41,7 @@ fn boards(rt: &impl Print) -> io::Result<()> {
 }
 
 // Lamps, another type: memory for three, sixty-four allowed.
-fn lamps(rt: &impl Print) -> io::Result<()> {
+fn fill_lamps(rt: &impl Print) -> io::Result<()> {
     println!(rt; "lamps")?;
     let mut memory = [at(0, Lamp::Red); 3];
     let mut list = PlaceList::new(&mut memory, 64);
@@ -57,14 +57,14 @@ fn lamps(rt: &impl Print) -> io::Result<()> {
     )
 }
 
-fn no_memory(rt: &impl Print) -> io::Result<()> {
+fn offer_without_memory(rt: &impl Print) -> io::Result<()> {
     println!(rt; "no memory")?;
     let mut list = PlaceList::new(&mut [], 64);
     offer(rt, &mut list, board_at(100, 1))?;
     show(rt, &list)
 }
 
-fn nothing_allowed(rt: &impl Print) -> io::Result<()> {
+fn offer_where_none_is_allowed(rt: &impl Print) -> io::Result<()> {
     println!(rt; "nothing allowed")?;
     let mut memory = [at(0, Lamp::Red); 2];
     let mut list = PlaceList::new(&mut memory, 0);
@@ -73,7 +73,7 @@ fn nothing_allowed(rt: &impl Print) -> io::Result<()> {
 }
 
 // The whole memory comes back: the item at its start, and what it held behind that.
-fn given_back(rt: &impl Print) -> io::Result<()> {
+fn give_back(rt: &impl Print) -> io::Result<()> {
     println!(rt; "given back")?;
     let mut memory = [board_at(7, 7), board_at(8, 8)];
     for x in lend(&mut memory, board_at(900, 9)) {

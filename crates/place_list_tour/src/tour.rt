@@ -23,11 +23,10 @@ pub(crate) fn go_round<T: Copy + Keyed>(
     show(rt, list)?;
     swap_in(rt, list, first)?;
     take(rt, list, 3)?;
-    look(rt, list, third)
+    look_up(rt, list, third)
 }
 
-// Inserts an item, and says what came of it. Here and below the list and the item come as two: a struct of both would be built for one call.
-// The key and the place are printed in four sentences: a `Display` for the items of this program alone would be longer.
+// Inserts an item, and prints what came of it.
 pub(crate) fn offer<T: Copy + Keyed>(
     rt: &impl Print,
     list: &mut PlaceList<'_, T>,
@@ -39,7 +38,7 @@ pub(crate) fn offer<T: Copy + Keyed>(
     }
 }
 
-// Takes an item out, and says which it was.
+// Takes an item out, and prints which it was.
 fn take<T: Copy + Keyed>(
     rt: &impl Print,
     list: &mut PlaceList<'_, T>,
@@ -80,14 +79,18 @@ fn exchange<T: Copy>(
 }
 
 // Looks an item up by its place and by its key.
-fn look<T: Copy + Keyed>(rt: &impl Print, list: &PlaceList<'_, T>, x: Placed<T>) -> io::Result<()> {
-    found(rt, list.find_place(x.place))?;
-    found(rt, list.find_place(Distance { millimetres: 1 }))?;
-    found(rt, list.find_key(x.item.key()))?;
-    found(rt, list.find_key(99))
+fn look_up<T: Copy + Keyed>(
+    rt: &impl Print,
+    list: &PlaceList<'_, T>,
+    x: Placed<T>,
+) -> io::Result<()> {
+    print_index(rt, list.find_place(x.place))?;
+    print_index(rt, list.find_place(Distance { millimetres: 1 }))?;
+    print_index(rt, list.find_key(x.item.key()))?;
+    print_index(rt, list.find_key(99))
 }
 
-fn found(rt: &impl Print, index: Option<usize>) -> io::Result<()> {
+fn print_index(rt: &impl Print, index: Option<usize>) -> io::Result<()> {
     match index {
         Some(i) => println!(rt; "found at {i}"),
         None => println!(rt; "not found"),

@@ -12,30 +12,30 @@ use Rattle.std.specs.declared.iter.Map.{Map}
 use Rattle.std.specs.declared.iter.Take.{Take}
 use Rattle.std.specs.declared.slice.SplitInclusive.{SplitInclusive}
 use Rattle.fields.specs.Lines.{feed}
-use Rattle.session.specs.SheetLines.{behind_feeds}
+use Rattle.session.specs.SheetLines.{end_of_lines}
 
-none_left : (bytes : List ℕ) → behind_feeds 0 bytes ≡ 0
+none_left : (bytes : List ℕ) → end_of_lines 0 bytes ≡ 0
 none_left [] = refl
 none_left (b ∷ bytes) = refl
 
-all_behind : (left : ℕ) (bytes : List ℕ) → length bytes ≡ 0 → behind_feeds left bytes ≡ 0
+all_behind : (left : ℕ) (bytes : List ℕ) → length bytes ≡ 0 → end_of_lines left bytes ≡ 0
 all_behind left [] e = refl
 all_behind left (b ∷ bytes) e = absurd (omega arith)
 
-no_feed : (left b : ℕ) (bytes : List ℕ) → eqb b feed ≡ false → behind_feeds (suc left) (b ∷ bytes) ≡ 1 + behind_feeds (suc left) bytes
+no_feed : (left b : ℕ) (bytes : List ℕ) → eqb b feed ≡ false → end_of_lines (suc left) (b ∷ bytes) ≡ 1 + end_of_lines (suc left) bytes
 no_feed left b bytes t = rw t refl
 
-one_feed : (left b : ℕ) (bytes : List ℕ) → eqb b feed ≡ true → behind_feeds (suc left) (b ∷ bytes) ≡ 1 + behind_feeds left bytes
+one_feed : (left b : ℕ) (bytes : List ℕ) → eqb b feed ≡ true → end_of_lines (suc left) (b ∷ bytes) ≡ 1 + end_of_lines left bytes
 one_feed left b bytes t = rw t refl
 
 -- a text's last part, with a feed or with none, is one line
-last_line : (t : Bool) (left b : ℕ) (rest : List ℕ) → eqb b feed ≡ t → (length rest ≡ 0) ⊎ (t ≡ true) → behind_feeds (suc left) (b ∷ rest) ≡ 1 + behind_feeds left rest
+last_line : (t : Bool) (left b : ℕ) (rest : List ℕ) → eqb b feed ≡ t → (length rest ≡ 0) ⊎ (t ≡ true) → end_of_lines (suc left) (b ∷ rest) ≡ 1 + end_of_lines left rest
 last_line true left b rest e last = one_feed left b rest e
 last_line false left b rest e (inl end) = omega (arith, no_feed left b rest e, all_behind (suc left) rest end, all_behind left rest end)
 last_line false left b rest e (inr is) = one_feed left b rest (e ∙ is)
 
 -- bytes of which only the last is a feed, or none and nothing behind them, are one line
-one_line : (left : ℕ) (line rest : List ℕ) → 0 < length line → ((k : ℕ) → k + 1 < length line → eqb (get_or line k 0) feed ≡ false) → (length rest ≡ 0) ⊎ ((k : ℕ) → k + 1 ≡ length line → eqb (get_or line k 0) feed ≡ true) → behind_feeds (suc left) (line ++ rest) ≡ length line + behind_feeds left rest
+one_line : (left : ℕ) (line rest : List ℕ) → 0 < length line → ((k : ℕ) → k + 1 < length line → eqb (get_or line k 0) feed ≡ false) → (length rest ≡ 0) ⊎ ((k : ℕ) → k + 1 ≡ length line → eqb (get_or line k 0) feed ≡ true) → end_of_lines (suc left) (line ++ rest) ≡ length line + end_of_lines left rest
 one_line left [] rest some none last = absurd (omega arith)
 one_line left (b ∷ []) rest some none (inl end) = last_line (eqb b feed) left b rest refl (inl end)
 one_line left (b ∷ []) rest some none (inr is) = last_line (eqb b feed) left b rest refl (inr (is 0 (omega arith)))
@@ -44,11 +44,11 @@ one_line left (b ∷ c ∷ line) rest some none last =
     omega (arith, no_feed left b (c ∷ line ++ rest) (none 0 (omega arith)), more)
 
 -- the part that is cut off a text behind its first feed, or the whole text
-cut_line : (left i : ℕ) (bytes line rest : List ℕ) → bytes ≡ line ++ rest → length line ≡ min (i + 1) (length bytes) → 0 < length bytes → IsFirstMatchOrLen (λ b. b == feed) bytes i → behind_feeds (suc left) bytes ≡ length line + behind_feeds left rest
+cut_line : (left i : ℕ) (bytes line rest : List ℕ) → bytes ≡ line ++ rest → length line ≡ min (i + 1) (length bytes) → 0 < length bytes → IsFirstMatchOrLen (λ b. b == feed) bytes i → end_of_lines (suc left) bytes ≡ length line + end_of_lines left rest
 cut_line left i bytes line rest e size some first =
     let whole = ap length e in
     let at : (k : ℕ) → k < length line → get_or bytes k 0 ≡ get_or line k 0 = λ k h. ap (λ (l : List ℕ). get_or l k 0) e ∙ get_or_append_left line rest 0 k h in
-    ap (behind_feeds (suc left)) e ∙ one_line left line rest (omega arith)
+    ap (end_of_lines (suc left)) e ∙ one_line left line rest (omega arith)
     (λ k h. ap (λ (b : ℕ). eqb b feed) (sym (at k (omega arith))) ∙ first.0 k 0 (omega arith) (omega arith))
     (⊎_elim
     (λ within. inr (λ k h. let last : k ≡ i = omega arith in
@@ -81,23 +81,23 @@ module _ {F G : Type 0} (g : Mut F (Bor ℕ × Unit {0}) Bool) (m : Mut G (Bor (
 
   -- the bytes of the lines so far, and those that are still to come
   turned : Asks → Counts → (s t : Map (Take (SplitInclusive ℕ F)) G) (ns : List ℕ) (n : ℕ) → Yields Turns s ns t →
-      (fold (λ a x. a + x) n ns + length t.iter.iter.rest.now ≡ n + length s.iter.iter.rest.now) × (n + behind_feeds s.iter.n s.iter.iter.rest.now ≡ fold (λ a x. a + x) n ns + behind_feeds t.iter.n t.iter.iter.rest.now)
-  turned asks counts s t [] n e = (ap (λ (i : Map (Take (SplitInclusive ℕ F)) G). n + length i.iter.iter.rest.now) (sym e), ap (λ (i : Map (Take (SplitInclusive ℕ F)) G). n + behind_feeds i.iter.n i.iter.iter.rest.now) e)
+      (fold (λ a x. a + x) n ns + length t.iter.iter.rest.now ≡ n + length s.iter.iter.rest.now) × (n + end_of_lines s.iter.n s.iter.iter.rest.now ≡ fold (λ a x. a + x) n ns + end_of_lines t.iter.n t.iter.iter.rest.now)
+  turned asks counts s t [] n e = (ap (λ (i : Map (Take (SplitInclusive ℕ F)) G). n + length i.iter.iter.rest.now) (sym e), ap (λ (i : Map (Take (SplitInclusive ℕ F)) G). n + end_of_lines i.iter.n i.iter.iter.rest.now) e)
   turned asks counts s t (y ∷ ns) n (j, (x, (cut, fewer), called), more) =
       let rest = turned asks counts j t ns (n + y) more in
       let size = counts _ _ _ _ called in
       let one = cut_line j.iter.n cut.1.0 s.iter.iter.rest.now x.now j.iter.iter.rest.now cut.0 cut.1.1 cut.2 (cut.1.2 (λ b. b == feed) (always asks s.iter.iter.pred)).1 in
       let left : s.iter.n ≡ suc j.iter.n = omega (arith, fewer) in
-      let same = ap (λ (k : ℕ). behind_feeds k s.iter.iter.rest.now) left in
+      let same = ap (λ (k : ℕ). end_of_lines k s.iter.iter.rest.now) left in
       let whole = ap length cut.0 ∙ length-append x.now j.iter.iter.rest.now in
       (omega (arith, rest.0, size, whole), omega (arith, rest.1, size, one, same))
 
-  none_more : (left : ℕ) (bytes : List ℕ) → (0 < left → length bytes ≡ 0) → behind_feeds left bytes ≡ 0
+  none_more : (left : ℕ) (bytes : List ℕ) → (0 < left → length bytes ≡ 0) → end_of_lines left bytes ≡ 0
   none_more zero bytes e = none_left bytes
   none_more (suc left) bytes e = all_behind (suc left) bytes (e (omega arith))
 
   -- all lines are taken, or the text is at its end
-  pub drained : Asks → Counts → (s t u : Map (Take (SplitInclusive ℕ F)) G) (ns : List ℕ) → Yields Turns s ns t → Turns t None u → fold (λ a x. a + x) 0 ns ≡ behind_feeds s.iter.n s.iter.iter.rest.now
+  pub drained : Asks → Counts → (s t u : Map (Take (SplitInclusive ℕ F)) G) (ns : List ℕ) → Yields Turns s ns t → Turns t None u → fold (λ a x. a + x) 0 ns ≡ end_of_lines s.iter.n s.iter.iter.rest.now
   drained asks counts s t u ns y end =
       let so_far = turned asks counts s t ns 0 y in
       omega (arith, so_far.1, none_more t.iter.n t.iter.iter.rest.now (λ some. (end.0 some).0))

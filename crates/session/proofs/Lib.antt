@@ -1,2 +1,3 @@
 mod Feeds
+mod Texts
 mod Turns

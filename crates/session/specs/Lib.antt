@@ -1,4 +1,5 @@
 pub mod Answers
 pub mod Lines
-pub mod SheetLines
 pub mod Printed
+pub mod SheetLines
+pub mod Texts

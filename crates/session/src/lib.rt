@@ -1,11 +1,11 @@
 #![tactic(auto)]
 
-mod lines;
-mod merging;
+mod answered;
+mod answering;
 mod sheet_lines;
 mod shown;
 
-pub use lines::{calls_in, read_lines};
-pub use merging::answers;
+pub use answered::Answered;
+pub use answering::{MAX_BYTES, answer_text};
 pub use sheet_lines::sheet_end;
 pub use shown::Shown;

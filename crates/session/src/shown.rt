@@ -5,7 +5,7 @@ use calls::{Phase, Record, Zone};
 use std::fmt;
 
 // What is shown of a call line: the number of its answer, the phase after it, and the zone of an accepted sample.
-// Flat, as it is printed: a fault and a refusal have nothing but a number in common, and neither has a zone.
+// An accepted call has the number 0; a fault and a refusal have a number and no zone.
 #[derive(Clone, Copy, Debug, PartialEq, Eq)]
 pub struct Shown {
     pub number: u8,
@@ -14,6 +14,13 @@ pub struct Shown {
 }
 
 impl Shown {
+    // What memory for what is shown may hold before it is written.
+    pub const BLANK: Shown = Shown {
+        number: 0,
+        phase: Phase::Free,
+        zone: None,
+    };
+
     ghost use Rattle.session.specs.Answers.{of_fault};
 
     // What is shown of a line that is no call, with the phase so far.
@@ -42,6 +49,7 @@ impl From<Record> for Shown {
     }
 }
 
+// Prints as `answer=N phase=P zone=Z`, with a dash where there is no zone.
 impl fmt::Display for Shown {
     ghost use Rattle.session.specs.Printed.{shown_text};
 

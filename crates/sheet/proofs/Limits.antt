@@ -16,8 +16,8 @@ pub record Limits (v : Values) : Type 0 where
   pub ti : v.ti ≤ 100
 
 pub limits : (v : Values) → admissible v ≡ true → Limits v
-limits v fine =
-    let ranges = (and_parts (in_ranges v) (brake_allowed v.train v.brake) fine).0 in
+limits v valid =
+    let ranges = (and_parts (in_ranges v) (brake_allowed v.train v.brake) valid).0 in
     let a = and_parts (in_range Ep v.ep) _ ranges in
     let b = and_parts (in_range Lambda v.lambda) _ a.1 in
     let c = and_parts (in_range Length v.length) _ b.1 in

@@ -8,10 +8,10 @@ use Rattle.sheet.specs.declared.refusal.Refusal.TheVariants.{OutOfRange, GoodsBr
 use Rattle.sheet.specs.Ranges.{in_ranges, brake_allowed}
 
 -- When a refusal is due: the ranges are asked first, then the brake.
-abbrev pub Due : Values → Refusal → Type 0
-Due v OutOfRange = in_ranges v ≡ false
-Due v GoodsBrake = (in_ranges v ≡ true) × (brake_allowed v.train v.brake ≡ false)
+abbrev pub RefusalDue : Values → Refusal → Type 0
+RefusalDue v OutOfRange = in_ranges v ≡ false
+RefusalDue v GoodsBrake = (in_ranges v ≡ true) × (brake_allowed v.train v.brake ≡ false)
 
-abbrev pub Answered : Values → Result Admitted Rejected → Type 0
-Answered v (Ok a) = (in_ranges v ≡ true) × (brake_allowed v.train v.brake ≡ true) × (a.values ≡ v)
-Answered v (Err e) = Due v e.refusal × (e.draft.values ≡ v)
+abbrev pub AdmitAnswers : Values → Result Admitted Rejected → Type 0
+AdmitAnswers v (Ok a) = (in_ranges v ≡ true) × (brake_allowed v.train v.brake ≡ true) × (a.values ≡ v)
+AdmitAnswers v (Err e) = RefusalDue v e.refusal × (e.draft.values ≡ v)

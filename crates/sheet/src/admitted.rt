@@ -4,8 +4,8 @@ ghost use Rattle.sheet.specs.Ranges.{admissible};
 use crate::values::Values;
 
 // A train sheet that was admitted: its type holds that every value is in range and the brake fits the train.
-// It is moved and never copied.
+// It can be neither copied nor dropped: it is given up by `into_draft`, or with the mission that is opened with it.
 pub struct Admitted {
     pub(crate) values: Values,
-    ghost fine: { admissible values ≡ true },
+    ghost valid: { admissible values ≡ true },
 }

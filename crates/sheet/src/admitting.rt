@@ -1,6 +1,6 @@
 ghost use Rattle.std.specs.Prelude.{◌≡◌, true};
 ghost use Rattle.sheet.specs.Ranges.{admissible};
-ghost use Rattle.sheet.specs.Admitting.{Answered};
+ghost use Rattle.sheet.specs.Admitting.{AdmitAnswers};
 
 use crate::admitted::Admitted;
 use crate::draft::{Draft, Rejected};
@@ -8,9 +8,9 @@ use crate::refusal::Refusal;
 use crate::values::Values;
 
 impl Draft {
-    // The draft as an admitted sheet, or the same draft back with the reason.
+    // The draft as an admitted sheet, or the same draft back with the reason: the ranges are asked first, then whether the brake fits the train.
     pub fn admit(self) -> Result<Admitted, Rejected>
-        ensures { Answered self.values result }
+        ensures { AdmitAnswers self.values result }
     {
         let refusal = if !self.values.in_ranges() {
             Refusal::OutOfRange
@@ -31,12 +31,12 @@ impl Admitted {
     // A copy of the sheet's values; they can be admitted again.
     pub fn values(&self) -> Values
         ensures same { result ≡ self.now.values }
-        ensures fine { admissible result ≡ true }
+        ensures valid { admissible result ≡ true }
     {
         self.values
     }
 
-    // The draft that was admitted. No `From`: the name says that an admitting is undone.
+    // The draft that was admitted. The admitted sheet is used up.
     pub fn into_draft(self) -> Draft
         ensures { result.values ≡ self.values }
     {

@@ -1,5 +1,5 @@
 ghost use Rattle.std.specs.Prelude.{◌≡◌};
-ghost use Rattle.sheet.specs.Values.{put_number};
+ghost use Rattle.sheet.specs.Values.{with_number};
 
 use crate::number_key::NumberKey;
 use crate::values::Values;
@@ -7,7 +7,7 @@ use crate::values::Values;
 impl Values {
     // The values with this number at the key, in its range or not.
     pub fn with(self, key: NumberKey, number: u16) -> Values
-        ensures { result ≡ put_number key number self }
+        ensures { result ≡ with_number key number self }
     {
         let mut values = self;
         match key {

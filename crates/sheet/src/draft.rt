@@ -1,7 +1,7 @@
 use crate::refusal::Refusal;
 use crate::values::Values;
 
-// A train sheet as it was written down, looked at by nobody yet. It is moved and never copied.
+// A train sheet as it was written down, with any content: nothing of it has been asked yet. It can be neither copied nor dropped.
 pub struct Draft {
     pub values: Values,
 }

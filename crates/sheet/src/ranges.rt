@@ -6,7 +6,7 @@ use crate::values::Values;
 use crate::words::Service;
 
 impl NumberKey {
-    // Whether a value is in the key's range. The ranges stand here and nowhere else.
+    // Whether a value, in the unit of the key's field of `Values`, is in the key's range.
     pub fn admits(self, value: u16) -> bool
         ensures { result ≡ in_range self value }
     {
@@ -36,7 +36,7 @@ impl Values {
             && NumberKey::Eps.admits(self.eps)
     }
 
-    // Whether a goods brake stands only with a goods train.
+    // Whether the brake fits the train: only a goods train may have its brake set for goods.
     pub fn brake_allowed(&self) -> bool
         ensures { result ≡ brake_allowed self.now.train self.now.brake }
     {

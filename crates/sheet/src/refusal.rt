@@ -15,7 +15,7 @@ pub enum Refusal {
 impl Refusal {
     ghost use Rattle.sheet.specs.Refusals.{number};
 
-    // The number that stands for the refusal: a cast of this type's own numbers, since a trait for all such types would want the same line in each impl.
+    // The number by which the refusal is reported.
     pub fn number(self) -> u8
         ensures { result ≡ number self }
     {
@@ -23,7 +23,7 @@ impl Refusal {
     }
 }
 
-// A refusal prints as the answer that it is: one impl for one type: `Display` is a foreign trait, so none may serve all types at once.
+// A refusal prints as `answer=` and its number.
 impl fmt::Display for Refusal {
     ghost use Rattle.sheet.specs.Refusals.{refusal_text};
 

@@ -5,14 +5,17 @@ use crate::words::{LengthChoice, Model, Regime, Service};
 pub struct Values {
     pub model: Model,
     pub regime: Regime,
+    // what the train is made up as
     pub train: Service,
+    // what its brake is set for
     pub brake: Service,
-    // whether the electro-pneumatic brake works, 0 or 1: a number like the others, since a draft may hold any and admitting refuses it
+    // whether the electro-pneumatic brake works, 0 or 1; a draft may hold any number here, which admitting refuses
     pub ep: u16,
-    // the braked weight percentage
+    // the braked weight percentage, which says how well the train brakes
     pub lambda: u16,
-    // of the train, in m
+    // the train's length, in m
     pub length: u16,
+    // which length the time of the brake pipe is worked out from
     pub lfren: LengthChoice,
     // the share of the braking deceleration that is counted on, in hundredths
     pub kr: u16,

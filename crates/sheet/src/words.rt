@@ -18,7 +18,7 @@ pub enum Regime {
     Trial,
 }
 
-// What a train is made up as, and what its brake is set to.
+// What a train is made up as, or what its brake is set for.
 #[derive(Clone, Copy, Debug, PartialEq, Eq)]
 pub enum Service {
     // V

@@ -5,8 +5,8 @@
 mod tests {
     use sheet::{Draft, LengthChoice, Model, NumberKey, Regime, Rejected, Service, Values};
 
-    // Values that are fine. Those of `figures` stand above the models, which these tests do not need.
-    const FINE: Values = Values {
+    // Values that are admitted.
+    const VALID: Values = Values {
         model: Model::Scmt,
         regime: Regime::Operation,
         train: Service::Passenger,
@@ -21,7 +21,7 @@ mod tests {
         eps: 0,
     };
 
-    // The number of the refusal, or 0, as the tests have stated it from the start. The draft that comes back, admitted or not, has the same eps.
+    // The number of the refusal, or 0 where the values are admitted, and the eps of the draft that comes back.
     fn answer(values: Values) -> (u8, u16) {
         match (Draft { values }).admit() {
             Ok(sheet) => {
@@ -74,16 +74,15 @@ mod tests {
     #[test]
     fn values_at_their_limits_are_admitted(rt: HostRuntime) {
         for (key, value) in &AT_THE_LIMITS {
-            let values = FINE.with(*key, *value);
+            let values = VALID.with(*key, *value);
             assert_eq!(rt; answer(values), (0, values.eps));
         }
     }
 
     #[test]
     fn values_beyond_their_limits_are_refused(rt: HostRuntime) {
-        // as above but for the number: a function of both would answer whether all are so, and the assertion would not print the answer that is not
         for (key, value) in &BEYOND {
-            let values = FINE.with(*key, *value);
+            let values = VALID.with(*key, *value);
             assert_eq!(rt; answer(values), (4, values.eps));
         }
     }
@@ -94,14 +93,14 @@ mod tests {
             answer(Values {
                 train: Service::Goods,
                 brake: Service::Goods,
-                ..FINE
+                ..VALID
             }),
             (0, 0)
         );
         assert_eq!(rt;
             answer(Values {
                 brake: Service::Goods,
-                ..FINE
+                ..VALID
             }),
             (6, 0)
         );
@@ -109,7 +108,7 @@ mod tests {
             answer(Values {
                 brake: Service::Goods,
                 kr: 151,
-                ..FINE
+                ..VALID
             }),
             (4, 0)
         );

@@ -6,7 +6,7 @@ use Rattle.std.proofs.lemmas.Fmt.{decimal_injective as same_from_decimal}
 use Rattle.std.proofs.lemmas.List.{get_or_at, length-append}
 use Rattle.std.proofs.lemmas.Bool.{and_parts}
 use Rattle.fields.proofs.Separators.{split_at}
-use Rattle.fields.specs.Keys.{Keyed}
+use Rattle.fields.specs.Keys.{HasKey}
 use Rattle.fields.specs.Lines.{Begins}
 use Rattle.fields.specs.declared.faults.ValueFault.TheVariants.{Text, OtherKey, BadValue}
 use Rattle.sheet.specs.Ranges.{in_range, in_ranges, brake_allowed}
@@ -21,15 +21,15 @@ use Rattle.sheet.specs.declared.words.LengthChoice.TheVariants.{Fixed, Train as 
 use Rattle.sheet.specs.declared.number_key.NumberKey.TheVariants.{Ep, Lambda, Length, Kr, Tw, Ti}
 use Rattle.sheet.specs.declared.values.Values.{Values}
 use Rattle.sheet.specs.declared.draft.Draft.{Draft}
-use Rattle.sheet_text.specs.Entries.{key_of, name_of, value_text, line_text, lines, entries_of, written, model_word, regime_word, service_word, length_word}
-use Rattle.sheet_text.specs.Reading.{Ranged, Valued, LineFault}
-use Rattle.sheet_text.specs.Sheets.{puts, blank, Stops, IsText, SheetAnswers, Taken, OneSheet}
+use Rattle.sheet_text.specs.Entries.{key_of, name_of, value_text, line_text, lines, entries_of, written_sheet, model_word, regime_word, service_word, length_word}
+use Rattle.sheet_text.specs.Reading.{IsInRange, HasFormOf, LineFault}
+use Rattle.sheet_text.specs.Sheets.{with_entries, blank_values, Stops, IsText, SheetAnswers, IsTaken, OneSheet}
 use Rattle.sheet_text.specs.declared.entry.Entry.{Entry}
 use Rattle.sheet_text.specs.declared.entry.Entry.TheVariants.{Model as OfModel, Regime as OfRegime, Train as OfTrain, Brake as OfBrake, Lfren as OfLfren, Number as OfNumber}
 use Rattle.sheet_text.specs.declared.faults.SheetFault.{SheetFault}
 use Rattle.sheet_text.specs.declared.faults.SheetFault.TheVariants.{Value, OutOfRange, LeftOver, GoodsBrake}
 use Rattle.sheet_text.specs.declared.key.Key.{Key}
-use Rattle.sheet_text.proofs.Completeness.{ValuedBy, entry, of_key}
+use Rattle.sheet_text.proofs.Completeness.{ValueType, entry, of_key}
 use Rattle.sheet_text.proofs.FeedFree.{small, core, core_free, core_short, line_is, value_short}
 
 same_model : (x y : Model) → model_word x ≡ model_word y → x ≡ y
@@ -57,7 +57,7 @@ same_length TrainLength Fixed e = let z : ◌≡◌ {A = ℕ} 84 68 = cc in absu
 same_length TrainLength TrainLength e = refl
 
 -- two entries of one key with the same text
-same_by_key : (e : Entry) (y : ValuedBy (key_of e)) → Ranged e → Ranged (entry (key_of e) y) → value_text e ≡ value_text (entry (key_of e) y) → e ≡ entry (key_of e) y
+same_by_key : (e : Entry) (y : ValueType (key_of e)) → IsInRange e → IsInRange (entry (key_of e) y) → value_text e ≡ value_text (entry (key_of e) y) → e ≡ entry (key_of e) y
 same_by_key (OfModel x) y r s t = ap OfModel (same_model x y t)
 same_by_key (OfRegime x) y r s t = ap OfRegime (same_regime x y t)
 same_by_key (OfTrain x) y r s t = ap OfTrain (same_service x y t)
@@ -66,10 +66,10 @@ same_by_key (OfLfren x) y r s t = ap OfLfren (same_length x y t)
 same_by_key (OfNumber k n) m r s t =
     ap (OfNumber k) (same_from_decimal n m (let a = small k n r in omega arith) (let b = small k m s in omega arith) t)
 
-pub same_entry : (e f : Entry) → Ranged e → Ranged f → key_of f ≡ key_of e → value_text e ≡ value_text f → e ≡ f
+pub same_entry : (e f : Entry) → IsInRange e → IsInRange f → key_of f ≡ key_of e → value_text e ≡ value_text f → e ≡ f
 same_entry e f r s is t =
     let y = of_key (key_of e) f is in
-    same_by_key e y.0 r (subst Ranged y.1 s) (t ∙ ap value_text y.1) ∙ sym y.1
+    same_by_key e y.0 r (subst IsInRange y.1 s) (t ∙ ap value_text y.1) ∙ sym y.1
 
 -- the lines in front of a text of lines are its first ones
 record GoesOn (es fs : List Entry) (rest : List ℕ) (ks : List Key) : Type 0 where
@@ -77,9 +77,9 @@ record GoesOn (es fs : List Entry) (rest : List ℕ) (ks : List Key) : Type 0 wh
   all : fs ≡ es ++ others
   text : rest ≡ lines others
   their_keys : map key_of others ≡ ks
-  ranged : AllByRecursion Ranged others
+  ranged : AllByRecursion IsInRange others
 
-goes_on : (es fs : List Entry) (rest : List ℕ) (ks : List Key) → AllByRecursion Ranged es → AllByRecursion Ranged fs → map key_of fs ≡ map key_of es ++ ks → lines es ++ rest ≡ lines fs → GoesOn es fs rest ks
+goes_on : (es fs : List Entry) (rest : List ℕ) (ks : List Key) → AllByRecursion IsInRange es → AllByRecursion IsInRange fs → map key_of fs ≡ map key_of es ++ ks → lines es ++ rest ≡ lines fs → GoesOn es fs rest ks
 goes_on [] fs rest ks re rf is e = record { others = fs; all = refl; text = e; their_keys = is; ranged = rf }
 goes_on (x ∷ es) [] rest ks re rf is e = let z : ◌≡◌ {A = ℕ} 0 1 = cc in absurd (omega arith)
 goes_on (x ∷ es) (y ∷ fs) rest ks re rf is e =
@@ -94,7 +94,7 @@ goes_on (x ∷ es) (y ∷ fs) rest ks re rf is e =
     let next = goes_on es fs rest ks re.1 rf.1 more cut.1 in
     record { others = next.others; all = ap (λ (t : List Entry). y ∷ t) next.all ∙ ap (λ (z : Entry). z ∷ (es ++ next.others)) (sym same); text = next.text; their_keys = next.their_keys; ranged = next.ranged }
 
-pub entries_ranged : (v : Values) → in_ranges v ≡ true → AllByRecursion Ranged (entries_of v)
+pub entries_ranged : (v : Values) → in_ranges v ≡ true → AllByRecursion IsInRange (entries_of v)
 entries_ranged v h =
     let a = and_parts (in_range Ep v.ep) _ h in
     let b = and_parts (in_range Lambda v.lambda) _ a.1 in
@@ -105,15 +105,15 @@ entries_ranged v h =
     (tt, (tt, (tt, (tt, (a.0, (b.0, (c.0, (tt, (d.0, (e.0, (f.0, (f.1, tt))))))))))))
 
 -- a sheet's text in front of another's is all of it
-fronts_same : (v w : Values) (rest : List ℕ) → in_ranges v ≡ true → in_ranges w ≡ true → written v ++ rest ≡ written w → (v ≡ w) × (rest ≡ [])
-unfolding written
+fronts_same : (v w : Values) (rest : List ℕ) → in_ranges v ≡ true → in_ranges w ≡ true → written_sheet v ++ rest ≡ written_sheet w → (v ≡ w) × (rest ≡ [])
+unfolding written_sheet
 fronts_same v w rest rv rw e =
     let on = goes_on (entries_of v) (entries_of w) rest [] (entries_ranged v rv) (entries_ranged w rw) refl e in
     let none : on.others ≡ [] = (map-eq-nil_iff key_of).0 on.their_keys in
-    (ap (λ (es : List Entry). puts es blank) (sym (on.all ∙ (ap (λ (t : List Entry). entries_of v ++ t) none ∙ append-nil (entries_of v)))), on.text ∙ ap lines none)
+    (ap (λ (es : List Entry). with_entries es blank_values) (sym (on.all ∙ (ap (λ (t : List Entry). entries_of v ++ t) none ∙ append-nil (entries_of v)))), on.text ∙ ap lines none)
 
 -- the value of an entry is one that its key may have
-valued : (e : Entry) → Ranged e → Valued (key_of e) (value_text e)
+valued : (e : Entry) → IsInRange e → HasFormOf (key_of e) (value_text e)
 valued (OfModel x) r = (OfModel x, refl, refl)
 valued (OfRegime x) r = (OfRegime x, refl, refl)
 valued (OfTrain x) r = (OfTrain x, refl, refl)
@@ -121,12 +121,12 @@ valued (OfBrake x) r = (OfBrake x, refl, refl)
 valued (OfLfren x) r = (OfLfren x, refl, refl)
 valued (OfNumber k n) r = let short = value_short (OfNumber k n) r in (n, record { written = refl; within = short; short = omega arith })
 
-module _ (e : Entry) (r : Ranged e) (bytes rest : List ℕ) (is : bytes ≡ line_text e ++ rest) where
+module _ (e : Entry) (r : IsInRange e) (bytes rest : List ℕ) (is : bytes ≡ line_text e ++ rest) where
   -- a line that the bytes begin with is that of the entry
   line_same : (line : List ℕ) → Begins 32 bytes line → line ≡ core e
   line_same line b = (split_at 10 line (core e) b.behind.0 rest b.none_before (core_free e r) (sym b.behind.1 ∙ (is ∙ line_is e rest))).0
 
-  value_same : (line value : List ℕ) → Begins 32 bytes line → Keyed (name_of (key_of e)) line value → value ≡ value_text e
+  value_same : (line value : List ℕ) → Begins 32 bytes line → HasKey (name_of (key_of e)) line value → value ≡ value_text e
   value_same line value b k =
       let tails : 61 ∷ value ≡ 61 ∷ value_text e = append_cancel_left (name_of (key_of e)) (61 ∷ value) (61 ∷ value_text e) (sym k ∙ line_same line b) in cc
 
@@ -136,12 +136,12 @@ module _ (e : Entry) (r : Ranged e) (bytes rest : List ℕ) (is : bytes ≡ line
   long : length (core e) < length bytes
   long = omega (arith, ap length (is ∙ line_is e rest), length-append (core e) (10 ∷ rest))
 
-no_fault : (e : Entry) (text rest : List ℕ) (at : ℕ) (f : SheetFault) → Ranged e → drop at text ≡ line_text e ++ rest → LineFault (key_of e) text at f → ⊥
+no_fault : (e : Entry) (text rest : List ℕ) (at : ℕ) (f : SheetFault) → IsInRange e → drop at text ≡ line_text e ++ rest → LineFault (key_of e) text at f → ⊥
 no_fault e text rest at (Value (Text t)) r is fault = fault.1 (length (core e)) (core_short e r) (long e r (drop at text) rest is) (has_feed e r (drop at text) rest is)
 no_fault e text rest at (Value (OtherKey b)) r is fault = fault.1.2 (value_text e) (line_same e r (drop at text) rest is fault.1.0 fault.1.1)
 no_fault e text rest at (Value (BadValue b)) r is fault =
     let v = fault.1.2 in
-    v.2 (subst (Valued (key_of e)) (sym (value_same e r (drop at text) rest is fault.1.0 v.0 fault.1.1 v.1)) (valued e r))
+    v.2 (subst (HasFormOf (key_of e)) (sym (value_same e r (drop at text) rest is fault.1.0 v.0 fault.1.1 v.1)) (valued e r))
 no_fault e text rest at (OutOfRange b) r is fault =
     let v = fault.1.2 in
     v.3 e refl (value_same e r (drop at text) rest is fault.1.0 v.0 fault.1.1 v.1) r
@@ -149,31 +149,31 @@ no_fault e text rest at (LeftOver b) r is fault = fault
 no_fault e text rest at GoodsBrake r is fault = fault
 
 -- a text of a sheet stops nowhere
-never_stops : (text : List ℕ) (v : Values) (f : SheetFault) → in_ranges v ≡ true → text ≡ written v → Stops text f → ⊥
-unfolding written
+never_stops : (text : List ℕ) (v : Values) (f : SheetFault) → in_ranges v ≡ true → text ≡ written_sheet v → Stops text f → ⊥
+unfolding written_sheet
 never_stops text v f h same s =
-    let on = goes_on s.before (entries_of v) (drop (length (lines s.before)) text) (s.key ∷ s.behind) s.ranged (entries_ranged v h) s.in_order (sym s.fine ∙ same) in
+    let on = goes_on s.before (entries_of v) (drop (length (lines s.before)) text) (s.key ∷ s.behind) s.ranged (entries_ranged v h) s.in_order (sym s.text_is ∙ same) in
     stuck on.others on.text on.their_keys on.ranged
   where
-    stuck : (es : List Entry) → drop (length (lines s.before)) text ≡ lines es → map key_of es ≡ s.key ∷ s.behind → AllByRecursion Ranged es → ⊥
+    stuck : (es : List Entry) → drop (length (lines s.before)) text ≡ lines es → map key_of es ≡ s.key ∷ s.behind → AllByRecursion IsInRange es → ⊥
     stuck [] is ks rs = let z : ◌≡◌ {A = ℕ} 0 1 = cc in omega arith
     stuck (e ∷ es) is ks rs =
         let key : s.key ≡ key_of e = cc in
         no_fault e text (lines es) (length (lines s.before)) f rs.0 is (subst (λ (k : Key). LineFault k text (length (lines s.before)) f) key s.faulty)
 
-same_sheet : (text : List ℕ) (v w : Values) → in_ranges v ≡ true → in_ranges w ≡ true → text ≡ written v → text ≡ written w → v ≡ w
-same_sheet text v w rv rw ev ew = (fronts_same v w [] rv rw (append-nil (written v) ∙ (sym ev ∙ ew))).0
+same_sheet : (text : List ℕ) (v w : Values) → in_ranges v ≡ true → in_ranges w ≡ true → text ≡ written_sheet v → text ≡ written_sheet w → v ≡ w
+same_sheet text v w rv rw ev ew = (fronts_same v w [] rv rw (append-nil (written_sheet v) ∙ (sym ev ∙ ew))).0
 
 pub one_sheet : (text : List ℕ) → OneSheet text
 one_sheet text v w a b = same_sheet text v w a.ranged b.ranged a.same b.same
 
-pub taken : (text : List ℕ) (r : Result Draft SheetFault) → SheetAnswers text r → (v : Values) → IsText text v → Taken v r
+pub taken : (text : List ℕ) (r : Result Draft SheetFault) → SheetAnswers text r → (v : Values) → IsText text v → IsTaken v r
 taken text (Ok d) a v is = one_sheet text d.values v a is
 taken text (Err (Value f)) a v is = never_stops text v (Value f) is.ranged is.same a
 taken text (Err (OutOfRange b)) a v is = never_stops text v (OutOfRange b) is.ranged is.same a
 taken text (Err (LeftOver b)) a v is =
     let none = (fronts_same a.0 v (drop b text) a.1.ranged is.ranged (sym a.1.front ∙ is.same)).1 in
-    a.2 (a.1.ends ∙ sym (ap length (a.1.front ∙ (ap (λ (t : List ℕ). written a.0 ++ t) none ∙ append-nil (written a.0)))))
+    a.2 (a.1.ends ∙ sym (ap length (a.1.front ∙ (ap (λ (t : List ℕ). written_sheet a.0 ++ t) none ∙ append-nil (written_sheet a.0)))))
 taken text (Err GoodsBrake) a v is =
     let same : a.0 ≡ v = same_sheet text a.0 v a.1 is.ranged a.2 is.same in
     let wrong : brake_allowed v.train v.brake ≡ false = subst (λ (w : Values). brake_allowed w.train w.brake ≡ false) same a.3 in

@@ -11,7 +11,7 @@ use Rattle.sheet.specs.declared.words.LengthChoice.{LengthChoice}
 use Rattle.sheet.specs.declared.number_key.NumberKey.TheVariants.{Ep, Lambda, Length, Kr, Tw, Ti, Eps}
 use Rattle.sheet.specs.declared.values.Values.{Values}
 use Rattle.sheet_text.specs.Entries.{key_of, keys, entries_of}
-use Rattle.sheet_text.specs.Reading.{Ranged}
+use Rattle.sheet_text.specs.Reading.{IsInRange}
 use Rattle.sheet_text.specs.declared.entry.Entry.{Entry}
 use Rattle.sheet_text.specs.declared.entry.Entry.TheVariants.{Model as OfModel, Regime as OfRegime, Train as OfTrain, Brake as OfBrake, Lfren as OfLfren, Number as OfNumber}
 use Rattle.sheet_text.specs.declared.key.Key.{Key}
@@ -19,16 +19,16 @@ use Rattle.sheet_text.specs.declared.key.Key.TheVariants.{Word, Number}
 use Rattle.sheet_text.specs.declared.key.WordKey.TheVariants.{Model as ModelKey, Regime as RegimeKey, Train as TrainKey, Brake as BrakeKey, Lfren as LfrenKey}
 
 -- the value type of a key
-abbrev pub ValuedBy : Key → Type 0
-ValuedBy (Word ModelKey) = Model
-ValuedBy (Word RegimeKey) = Regime
-ValuedBy (Word TrainKey) = Service
-ValuedBy (Word BrakeKey) = Service
-ValuedBy (Word LfrenKey) = LengthChoice
-ValuedBy (Number k) = ℕ
+abbrev pub ValueType : Key → Type 0
+ValueType (Word ModelKey) = Model
+ValueType (Word RegimeKey) = Regime
+ValueType (Word TrainKey) = Service
+ValueType (Word BrakeKey) = Service
+ValueType (Word LfrenKey) = LengthChoice
+ValueType (Number k) = ℕ
 
 -- the entry of a key with a value
-abbrev pub entry : (k : Key) → ValuedBy k → Entry
+abbrev pub entry : (k : Key) → ValueType k → Entry
 entry (Word ModelKey) x = OfModel x
 entry (Word RegimeKey) x = OfRegime x
 entry (Word TrainKey) x = OfTrain x
@@ -37,7 +37,7 @@ entry (Word LfrenKey) x = OfLfren x
 entry (Number k) n = OfNumber k n
 
 -- an entry has the value of its key
-value : (e : Entry) → ValuedBy (key_of e)
+value : (e : Entry) → ValueType (key_of e)
 value (OfModel x) = x
 value (OfRegime x) = x
 value (OfTrain x) = x
@@ -54,11 +54,11 @@ is_entry (OfBrake x) = refl
 is_entry (OfLfren x) = refl
 is_entry (OfNumber k n) = refl
 
-pub of_key : (k : Key) (e : Entry) → key_of e ≡ k → (x : ValuedBy k) × (e ≡ entry k x)
-of_key k e is = subst (λ (j : Key). (x : ValuedBy j) × (e ≡ entry j x)) is (value e, is_entry e)
+pub of_key : (k : Key) (e : Entry) → key_of e ≡ k → (x : ValueType k) × (e ≡ entry k x)
+of_key k e is = subst (λ (j : Key). (x : ValueType j) × (e ≡ entry j x)) is (value e, is_entry e)
 
 -- the first entry and the others
-first : (es : List Entry) (k : Key) (ks : List Key) → map key_of es ≡ k ∷ ks → (x : ValuedBy k) × (rest : List Entry) × (es ≡ entry k x ∷ rest) × (map key_of rest ≡ ks)
+first : (es : List Entry) (k : Key) (ks : List Key) → map key_of es ≡ k ∷ ks → (x : ValueType k) × (rest : List Entry) × (es ≡ entry k x ∷ rest) × (map key_of rest ≡ ks)
 first [] k ks is = let z : ◌≡◌ {A = ℕ} 0 1 = cc in absurd (omega arith)
 first (e ∷ es) k ks is =
     let head : key_of e ≡ k = cc in
@@ -87,7 +87,7 @@ complete es is =
     )
 
 -- where every entry is in range, the sheet is
-pub all_ranged : (v : Values) → AllByRecursion Ranged (entries_of v) → in_ranges v ≡ true
+pub all_ranged : (v : Values) → AllByRecursion IsInRange (entries_of v) → in_ranges v ≡ true
 all_ranged v a =
     let numbers = a.1.1.1.1 in
     let others = numbers.1.1.1.1 in

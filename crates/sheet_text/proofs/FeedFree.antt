@@ -12,7 +12,7 @@ use Rattle.sheet.specs.declared.words.LengthChoice.TheVariants.{Fixed, Train as 
 use Rattle.sheet.specs.declared.number_key.NumberKey.{NumberKey}
 use Rattle.sheet.specs.declared.number_key.NumberKey.TheVariants.{Ep, Lambda, Length, Kr, Tw, Ti, Eps}
 use Rattle.sheet_text.specs.Entries.{key_of, name_of, value_text, line_text}
-use Rattle.sheet_text.specs.Reading.{Ranged}
+use Rattle.sheet_text.specs.Reading.{IsInRange}
 use Rattle.sheet_text.specs.declared.entry.Entry.{Entry}
 use Rattle.sheet_text.specs.declared.entry.Entry.TheVariants.{Model as OfModel, Regime as OfRegime, Train as OfTrain, Brake as OfBrake, Lfren as OfLfren, Number as OfNumber}
 use Rattle.sheet_text.specs.declared.key.Key.{Key}
@@ -29,7 +29,7 @@ small Tw n h = omega (arith, leb-true n 100 h)
 small Ti n h = omega (arith, leb-true n 100 h)
 small Eps n h = omega (arith, leb-true n 20 h)
 
-pub value_free : (e : Entry) → Ranged e → Without 10 (value_text e)
+pub value_free : (e : Entry) → IsInRange e → Without 10 (value_text e)
 unfolding above
 value_free (OfModel Scmt) r = above_without 10 (value_text (OfModel Scmt)) refl
 value_free (OfModel Etcs) r = above_without 10 (value_text (OfModel Etcs)) refl
@@ -62,7 +62,7 @@ name_free (Number Eps) = above_without 10 (name_of (Number Eps)) refl
 abbrev pub core : Entry → List ℕ
 core e = name_of (key_of e) ++ 61 ∷ value_text e
 
-pub core_free : (e : Entry) → Ranged e → Without 10 (core e)
+pub core_free : (e : Entry) → IsInRange e → Without 10 (core e)
 core_free e r = without_joined 10 (name_of (key_of e)) (61 ∷ value_text e) (name_free (key_of e)) (without_more 10 61 (value_text e) (λ same. omega arith) (value_free e r))
 
 pub line_is : (e : Entry) (rest : List ℕ) → line_text e ++ rest ≡ core e ++ 10 ∷ rest
@@ -85,7 +85,7 @@ name_short (Number Tw) = omega arith
 name_short (Number Ti) = omega arith
 name_short (Number Eps) = omega arith
 
-pub value_short : (e : Entry) → Ranged e → length (value_text e) ≤ 4
+pub value_short : (e : Entry) → IsInRange e → length (value_text e) ≤ 4
 value_short (OfModel Scmt) r = omega arith
 value_short (OfModel Etcs) r = omega arith
 value_short (OfRegime Operation) r = omega arith
@@ -98,5 +98,5 @@ value_short (OfLfren Fixed) r = omega arith
 value_short (OfLfren TrainLength) r = omega arith
 value_short (OfNumber k n) r = let s = small k n r in length-decimal-le 4 n (omega arith) (omega arith) (omega arith)
 
-pub core_short : (e : Entry) → Ranged e → length (core e) < 32
+pub core_short : (e : Entry) → IsInRange e → length (core e) < 32
 core_short e r = omega (arith, length-append (name_of (key_of e)) (61 ∷ value_text e), name_short (key_of e), value_short e r)

@@ -87,5 +87,5 @@ keys =
     ∷ Word LfrenKey ∷ Number Kr ∷ Number Tw ∷ Number Ti ∷ Number Eps ∷ []
 
 -- The text of a sheet.
-unfoldable pub written : Values → List ℕ
-written v = lines (entries_of v)
+unfoldable pub written_sheet : Values → List ℕ
+written_sheet v = lines (entries_of v)

@@ -5,12 +5,12 @@ use Rattle.sheet.specs.declared.words.Model.TheVariants.{Scmt}
 use Rattle.sheet.specs.declared.words.Regime.TheVariants.{Operation}
 use Rattle.sheet.specs.declared.words.Service.TheVariants.{Passenger}
 use Rattle.sheet.specs.declared.words.LengthChoice.TheVariants.{Fixed}
-use Rattle.sheet.specs.Values.{put_number}
+use Rattle.sheet.specs.Values.{with_number}
 use Rattle.sheet.specs.declared.values.Values.{Values}
 use Rattle.sheet.specs.declared.admitted.Admitted.{Admitted}
 use Rattle.sheet.specs.declared.draft.Draft.{Draft}
-use Rattle.sheet_text.specs.Entries.{key_of, keys, lines, written}
-use Rattle.sheet_text.specs.Reading.{Ranged, LineFault}
+use Rattle.sheet_text.specs.Entries.{key_of, keys, lines, written_sheet}
+use Rattle.sheet_text.specs.Reading.{IsInRange, LineFault}
 use Rattle.sheet_text.specs.declared.entry.Entry.{Entry}
 use Rattle.sheet_text.specs.declared.entry.Entry.TheVariants.{Model as OfModel, Regime as OfRegime, Train as OfTrain, Brake as OfBrake, Lfren as OfLfren, Number as OfNumber}
 use Rattle.sheet_text.specs.declared.faults.SheetFault.{SheetFault}
@@ -19,22 +19,22 @@ use Rattle.sheet_text.specs.declared.key.Key.{Key}
 use Rattle.std.specs.List.{AllByRecursion}
 
 -- A sheet with one entry put in.
-abbrev pub put : Entry → Values → Values
-put (OfModel x) v = record { model = x; regime = v.regime; train = v.train; brake = v.brake; ep = v.ep; lambda = v.lambda; length = v.length; lfren = v.lfren; kr = v.kr; tw = v.tw; ti = v.ti; eps = v.eps }
-put (OfRegime x) v = record { model = v.model; regime = x; train = v.train; brake = v.brake; ep = v.ep; lambda = v.lambda; length = v.length; lfren = v.lfren; kr = v.kr; tw = v.tw; ti = v.ti; eps = v.eps }
-put (OfTrain x) v = record { model = v.model; regime = v.regime; train = x; brake = v.brake; ep = v.ep; lambda = v.lambda; length = v.length; lfren = v.lfren; kr = v.kr; tw = v.tw; ti = v.ti; eps = v.eps }
-put (OfBrake x) v = record { model = v.model; regime = v.regime; train = v.train; brake = x; ep = v.ep; lambda = v.lambda; length = v.length; lfren = v.lfren; kr = v.kr; tw = v.tw; ti = v.ti; eps = v.eps }
-put (OfLfren x) v = record { model = v.model; regime = v.regime; train = v.train; brake = v.brake; ep = v.ep; lambda = v.lambda; length = v.length; lfren = x; kr = v.kr; tw = v.tw; ti = v.ti; eps = v.eps }
-put (OfNumber k n) v = put_number k n v
+abbrev pub with_entry : Entry → Values → Values
+with_entry (OfModel x) v = record { model = x; regime = v.regime; train = v.train; brake = v.brake; ep = v.ep; lambda = v.lambda; length = v.length; lfren = v.lfren; kr = v.kr; tw = v.tw; ti = v.ti; eps = v.eps }
+with_entry (OfRegime x) v = record { model = v.model; regime = x; train = v.train; brake = v.brake; ep = v.ep; lambda = v.lambda; length = v.length; lfren = v.lfren; kr = v.kr; tw = v.tw; ti = v.ti; eps = v.eps }
+with_entry (OfTrain x) v = record { model = v.model; regime = v.regime; train = x; brake = v.brake; ep = v.ep; lambda = v.lambda; length = v.length; lfren = v.lfren; kr = v.kr; tw = v.tw; ti = v.ti; eps = v.eps }
+with_entry (OfBrake x) v = record { model = v.model; regime = v.regime; train = v.train; brake = x; ep = v.ep; lambda = v.lambda; length = v.length; lfren = v.lfren; kr = v.kr; tw = v.tw; ti = v.ti; eps = v.eps }
+with_entry (OfLfren x) v = record { model = v.model; regime = v.regime; train = v.train; brake = v.brake; ep = v.ep; lambda = v.lambda; length = v.length; lfren = x; kr = v.kr; tw = v.tw; ti = v.ti; eps = v.eps }
+with_entry (OfNumber k n) v = with_number k n v
 
 -- Entries put in one after the other.
-abbrev pub puts : List Entry → Values → Values
-puts [] v = v
-puts (e ∷ es) v = puts es (put e v)
+abbrev pub with_entries : List Entry → Values → Values
+with_entries [] v = v
+with_entries (e ∷ es) v = with_entries es (with_entry e v)
 
 -- What a sheet has before its entries are put in.
-abbrev pub blank : Values
-blank = record { model = Scmt; regime = Operation; train = Passenger; brake = Passenger; ep = 0; lambda = 0; length = 0; lfren = Fixed; kr = 0; tw = 0; ti = 0; eps = 0 }
+abbrev pub blank_values : Values
+blank_values = record { model = Scmt; regime = Operation; train = Passenger; brake = Passenger; ep = 0; lambda = 0; length = 0; lfren = Fixed; kr = 0; tw = 0; ti = 0; eps = 0 }
 
 -- The text begins with the lines of some of the twelve keys, in range all of them, and the line of the next key has this fault.
 pub record Stops (text : List ℕ) (f : SheetFault) : Type 0 where
@@ -42,15 +42,15 @@ pub record Stops (text : List ℕ) (f : SheetFault) : Type 0 where
   pub key : Key
   pub behind : List Key
   pub in_order : keys ≡ map key_of before ++ key ∷ behind
-  pub ranged : AllByRecursion Ranged before
-  pub fine : text ≡ lines before ++ drop (length (lines before)) text
+  pub ranged : AllByRecursion IsInRange before
+  pub text_is : text ≡ lines before ++ drop (length (lines before)) text
   pub faulty : LineFault key text (length (lines before)) f
 
 -- The text begins with that of a sheet whose values are in range, which ends at a byte.
 pub record Fronts (text : List ℕ) (v : Values) (end : ℕ) : Type 0 where
   pub ranged : in_ranges v ≡ true
-  pub front : text ≡ written v ++ drop end text
-  pub ends : end ≡ length (written v)
+  pub front : text ≡ written_sheet v ++ drop end text
+  pub ends : end ≡ length (written_sheet v)
   pub within : end ≤ length text
 
 -- What the lines of a text answer, with the byte behind the last as the next one.
@@ -62,7 +62,7 @@ FrontAnswers text next (Err f) = Stops text f
 pub record IsText (text : List ℕ) (v : Values) : Type 0 where
   pub ranged : in_ranges v ≡ true
   pub allowed : brake_allowed v.train v.brake ≡ true
-  pub same : text ≡ written v
+  pub same : text ≡ written_sheet v
 
 -- Whether the brake stands with a train that it may stand with.
 abbrev pub BrakeAsked : Values → Result (Unit {0}) SheetFault → Type 0
@@ -74,16 +74,16 @@ abbrev pub FaultDue : List ℕ → SheetFault → Type 0
 FaultDue text (Value f) = Stops text (Value f)
 FaultDue text (OutOfRange b) = Stops text (OutOfRange b)
 FaultDue text (LeftOver b) = (v : Values) × Fronts text v b × (b ≢ length text)
-FaultDue text GoodsBrake = (v : Values) × (in_ranges v ≡ true) × (text ≡ written v) × (brake_allowed v.train v.brake ≡ false)
+FaultDue text GoodsBrake = (v : Values) × (in_ranges v ≡ true) × (text ≡ written_sheet v) × (brake_allowed v.train v.brake ≡ false)
 
 abbrev pub SheetAnswers : List ℕ → Result Draft SheetFault → Type 0
 SheetAnswers text (Ok d) = IsText text d.values
 SheetAnswers text (Err f) = FaultDue text f
 
 -- The draft has these values.
-abbrev pub Taken : Values → Result Draft SheetFault → Type 0
-Taken v (Ok d) = d.values ≡ v
-Taken v (Err f) = ⊥
+abbrev pub IsTaken : Values → Result Draft SheetFault → Type 0
+IsTaken v (Ok d) = d.values ≡ v
+IsTaken v (Err f) = ⊥
 
 -- A text is the text of one sheet at most.
 abbrev pub OneSheet : List ℕ → Type 0
@@ -93,3 +93,8 @@ OneSheet text = (v w : Values) → IsText text v → IsText text w → v ≡ w
 abbrev pub AdmittedAnswers : List ℕ → Result Admitted SheetFault → Type 0
 AdmittedAnswers text (Ok a) = IsText text a.values
 AdmittedAnswers text (Err f) = FaultDue text f
+
+-- The admitted sheet has these values.
+abbrev pub IsAdmitted : Values → Result Admitted SheetFault → Type 0
+IsAdmitted v (Ok a) = a.values ≡ v
+IsAdmitted v (Err f) = ⊥

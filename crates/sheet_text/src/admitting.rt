@@ -1,12 +1,15 @@
-ghost use Rattle.sheet_text.specs.Sheets.{AdmittedAnswers};
+ghost use Rattle.sheet.specs.declared.values.Values.{Values};
+ghost use Rattle.sheet_text.specs.Sheets.{AdmittedAnswers, IsAdmitted, IsText, OneSheet};
 
 use crate::faults::SheetFault;
 use crate::reading::read_sheet;
 use sheet::Admitted;
 
-// The admitted sheet that a text is the text of, or the first fault: admitting what was read refuses nothing.
+// The admitted sheet that a text is the text of, or the first fault. A sheet that was read is always admitted, so the `unwrap` never fails.
 pub fn read_admitted(text: &[u8]) -> Result<Admitted, SheetFault>
-    ensures { AdmittedAnswers text.now result }
+    ensures answers { AdmittedAnswers text.now result }
+    ensures exactly { (v : Values) → IsText text.now v → IsAdmitted v result }
+    ensures only { OneSheet text.now }
 {
     Ok(read_sheet(text)?.admit().unwrap())
 }

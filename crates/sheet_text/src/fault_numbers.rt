@@ -7,7 +7,7 @@ use std::error::Error;
 use std::fmt;
 
 impl SheetFault {
-    // The number that stands for the fault: a match, since a kind that holds a byte has no number of its own to cast.
+    // The number by which the fault is reported.
     pub fn number(self) -> u8
         ensures { result ≡ number self }
     {
@@ -19,7 +19,7 @@ impl SheetFault {
         }
     }
 
-    // The byte of the text that the fault is at, which each kind but one holds.
+    // The byte of the text that the fault is at, counted from 0; 0 for a brake that does not fit the train, which is no fault of one byte.
     pub fn byte(self) -> usize
         ensures { result ≡ fault_byte self }
     {
@@ -30,7 +30,7 @@ impl SheetFault {
         }
     }
 
-    // The reader that the fault belongs to: each kind of fault has its own table of layers.
+    // The reader that the fault belongs to.
     pub fn layer(self) -> Layer
         ensures { result ≡ layer_of self }
     {
@@ -43,7 +43,7 @@ impl SheetFault {
 }
 
 impl Layer {
-    // The layer's word: a table of this type alone.
+    // The layer's word.
     pub fn word(self) -> &'static str
         ensures { result.now ≡ layer_word self }
     {
@@ -55,7 +55,7 @@ impl Layer {
     }
 }
 
-// A layer prints as its word: one impl for one type, since `Display` is a foreign trait, and none may serve all types at once.
+// A layer prints as its word.
 impl fmt::Display for Layer {
     ghost output = { λ layer. Some (layer_word layer) };
 
@@ -64,7 +64,7 @@ impl fmt::Display for Layer {
     }
 }
 
-// As for a call's faults: no one impl of a foreign trait may serve all kinds of fault.
+// A fault prints as its number, byte and layer.
 impl fmt::Display for SheetFault {
     ghost output = { λ fault. Some (answer_text (number fault) (fault_byte fault) (layer_of fault)) };
 

@@ -3,7 +3,7 @@ ghost use Rattle.sheet_text.specs.declared.faults.SheetFault.TheVariants.{Value 
 
 use fields::ValueFault;
 
-// Why a train sheet could not be read.
+// Why a train sheet could not be read. Bytes are counted from the text's first.
 #[derive(Clone, Copy, Debug, PartialEq, Eq)]
 pub enum SheetFault {
     Value(ValueFault),
@@ -15,7 +15,7 @@ pub enum SheetFault {
     GoodsBrake,
 }
 
-// One line for one pair of types: a trait for all such pairs would want the same line in each impl.
+// The fault of the field reader, kept whole.
 impl From<ValueFault> for SheetFault {
     ghost from_gives = { λ e r. r ≡ OfValue e };
 

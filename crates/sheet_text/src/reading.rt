@@ -1,13 +1,13 @@
 ghost use Rattle.std.specs.Prelude.{◌≡◌};
 ghost use Rattle.sheet.specs.declared.values.Values.{Values};
-ghost use Rattle.sheet_text.specs.Reading.{LineAnswers, due_of};
-ghost use Rattle.sheet_text.specs.Sheets.{BrakeAsked, FrontAnswers, IsText, OneSheet, SheetAnswers, Taken, put};
+ghost use Rattle.sheet_text.specs.Reading.{LineAnswers, form_of};
+ghost use Rattle.sheet_text.specs.Sheets.{BrakeAsked, FrontAnswers, IsText, OneSheet, SheetAnswers, IsTaken, with_entry};
 
 use crate::entry::Entry;
 use crate::faults::SheetFault;
 use crate::key::{Key, WordKey};
-use crate::values::MOST_DIGITS;
-use fields::{Cursor, Due};
+use crate::values::MAX_DIGITS;
+use fields::{Cursor, Form};
 use sheet::{Draft, LengthChoice, Model, NumberKey, Regime, Service, Values};
 
 // How many bytes a line may have with its line feed.
@@ -15,23 +15,23 @@ const LINE_WINDOW: usize = 32;
 
 impl Key {
     // The form of the key's value.
-    fn due(self) -> Due
-        ensures { result ≡ due_of self }
+    fn form(self) -> Form
+        ensures { result ≡ form_of self }
     {
         match self {
-            Key::Word(_) => Due::Word,
-            Key::Number(_) => Due::Number(MOST_DIGITS),
+            Key::Word(_) => Form::Word,
+            Key::Number(_) => Form::Number(MAX_DIGITS),
         }
     }
 }
 
 // The key with its value in the line that is read next. The cursor then stands behind that line.
-// Here and below a clause says that the text stays: no type says which part of a `&mut` is left alone.
+// The clause `same`, here and below: the cursor moves on and its text stays.
 fn read_entry(rest: &mut Cursor, key: Key) -> Result<Entry, SheetFault>
     ensures answers { LineAnswers key rest.old.text.now rest.old.at rest.new.at result }
     ensures same { rest.new.text ≡ rest.old.text }
 {
-    let field = rest.read_field(LINE_WINDOW, key.name(), key.due())?;
+    let field = rest.read_field(LINE_WINDOW, key.name(), key.form())?;
     let value = field.span();
     let entry = key.entry(value)?;
     rest.at = value.byte + value.bytes.len() + 1;
@@ -75,7 +75,7 @@ const BLANK: Values = Values {
 
 // The values with one entry put in.
 fn with_entry(values: Values, entry: Entry) -> Values
-    ensures { result ≡ put entry values }
+    ensures { result ≡ with_entry entry values }
 {
     match entry {
         Entry::Model(model) => Values { model, ..values },
@@ -88,7 +88,6 @@ fn with_entry(values: Values, entry: Entry) -> Values
 }
 
 // The values of the twelve lines of a text that is read from its first byte. The cursor then stands behind the last line.
-// A fold over the list of keys, which is the order of the lines: twelve reads into a literal would state that order again.
 fn read_values(rest: &mut Cursor) -> Result<Values, SheetFault>
     requires { rest.old.at ≡ 0 }
     ensures answers { FrontAnswers rest.old.text.now rest.new.at result }
@@ -108,12 +107,12 @@ fn read_draft(text: &[u8]) -> Result<Draft, SheetFault>
     let mut rest = Cursor { text, at: 0 };
     let values = read_values(&mut rest)?;
     rest.ends().map_err(SheetFault::LeftOver)?;
-    asks_brake(values)?;
+    check_brake(values)?;
     Ok(Draft { values })
 }
 
-// A goods brake stands only with a goods train.
-fn asks_brake(values: Values) -> Result<(), SheetFault>
+// Refuses a brake that does not fit the train.
+fn check_brake(values: Values) -> Result<(), SheetFault>
     ensures { BrakeAsked values result }
 {
     if values.brake_allowed() {
@@ -126,7 +125,7 @@ fn asks_brake(values: Values) -> Result<(), SheetFault>
 // The draft that a text is the sheet of, or the first fault. A text is taken exactly where it is the text of a sheet that can be admitted.
 pub fn read_sheet(text: &[u8]) -> Result<Draft, SheetFault>
     ensures answers { SheetAnswers text.now result }
-    ensures exactly { (v : Values) → IsText text.now v → Taken v result }
+    ensures exactly { (v : Values) → IsText text.now v → IsTaken v result }
     ensures only { OneSheet text.now }
 {
     read_draft(text)

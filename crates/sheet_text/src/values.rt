@@ -1,5 +1,5 @@
 ghost use Rattle.std.specs.Prelude.{◌≡◌};
-ghost use Rattle.numerals.specs.Numerals.{Read};
+ghost use Rattle.numerals.specs.Numerals.{NumberRead};
 ghost use Rattle.sheet_text.specs.Reading.{RangeAsked, ValueAnswers};
 ghost use Rattle.sheet_text.specs.declared.key.Key.TheVariants.{Word as OfWord, Number as OfNumber};
 
@@ -11,13 +11,13 @@ use numerals::read_number;
 use sheet::NumberKey;
 
 // How many digits a number of the sheet may have.
-pub(crate) const MOST_DIGITS: usize = 4;
+pub(crate) const MAX_DIGITS: usize = 4;
 
 // The number that the bytes write in at most four digits.
 fn read_short(digits: &[u8]) -> Option<u16>
-    ensures { Read 4 digits.now result }
+    ensures { NumberRead 4 digits.now result }
 {
-    u16::try_from(read_number(digits, MOST_DIGITS)?).ok()
+    u16::try_from(read_number(digits, MAX_DIGITS)?).ok()
 }
 
 fn word_entry(key: WordKey, value: Span) -> Result<Entry, SheetFault>
@@ -33,12 +33,12 @@ fn number_entry(key: NumberKey, value: Span) -> Result<Entry, SheetFault>
     ensures { ValueAnswers (OfNumber key) value.entry.bytes.now value.entry.byte result }
 {
     let number = read_short(value.bytes).ok_or(ValueFault::BadValue(value.byte))?;
-    asks_range(key, number, value.byte)?;
+    check_range(key, number, value.byte)?;
     Ok(Entry::Number(key, number))
 }
 
-// The number whose value begins at a byte is in its key's range.
-fn asks_range(key: NumberKey, number: u16, byte: usize) -> Result<(), SheetFault>
+// Refuses a number that is not in its key's range, at the byte that its value begins at.
+fn check_range(key: NumberKey, number: u16, byte: usize) -> Result<(), SheetFault>
     ensures { RangeAsked key number byte result }
 {
     if key.admits(number) {
@@ -48,7 +48,6 @@ fn asks_range(key: NumberKey, number: u16, byte: usize) -> Result<(), SheetFault
     }
 }
 
-// A match, since a word's key and a number's are two types with readers of their own.
 impl Key {
     // The key with its value, if this has the key's form and is in its range.
     pub(crate) fn entry(self, value: Span) -> Result<Entry, SheetFault>

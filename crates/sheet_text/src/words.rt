@@ -30,7 +30,7 @@ impl Key {
     }
 }
 
-// What differs between the types of words stands in these impls; reading one is one function for all.
+// The words of each type; `read_word` reads a word of any of them.
 impl Word for Model {
     ghost text = { model_word };
 
@@ -107,7 +107,6 @@ impl Word for LengthChoice {
     }
 }
 
-// A match, since each key's word is read as another type.
 impl WordKey {
     // The key with the value whose word this is, if it is one of the key's words.
     pub fn entry(self, word: &[u8]) -> Option<Entry>

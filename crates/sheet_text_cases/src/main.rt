@@ -1,7 +1,7 @@
 #![tactic(auto)]
 
 // Reads many texts, each ended by a byte 1, as train sheets, and prints what is answered to each.
-use input::{MANY_TEXTS, TEXT_END, ended_texts, read_most};
+use input::{MANY_TEXTS, TEXT_END, ended_texts, read_at_most};
 use sheet::Draft;
 use sheet_text::read_sheet;
 use std::io;
@@ -16,9 +16,8 @@ fn show(rt: &impl Print, text: &[u8]) -> io::Result<()> {
     }
 }
 
-// As in the program for the lines of calls, but for what is shown: a function of both would be passed the handle, the input and what shows a text, and be no shorter than these lines.
 fn main(rt: HostRuntime) -> io::Result<()> {
-    let texts = read_most(rt.alloc(), rt.stdin(), MANY_TEXTS)?;
+    let texts = read_at_most(rt.alloc(), rt.stdin(), MANY_TEXTS)?;
     for text in ended_texts(rt.alloc(), texts.as_slice(), TEXT_END)?.as_slice() {
         show(&rt, text)?;
     }

@@ -5,7 +5,6 @@ use sheet::{NumberKey, Values};
 use sheet_text::{Entry, SHEET_LINES};
 
 // The values of a sheet with their keys, in the order of the lines.
-// A list beside that of the keys: from a key to its value a match would be as long, and the contracts hold both to one list.
 pub(crate) fn entries_of(values: &Values) -> [Entry; SHEET_LINES]
     ensures { result ≡ entries_of values.now }
 {

@@ -7,13 +7,12 @@ use std::fmt;
 // Why a sheet is not written.
 #[derive(Clone, Copy, Debug, PartialEq, Eq)]
 pub enum Refusal {
-    // the memory is too short for some sheets
+    // the memory has less than `ROOM` bytes
     NoRoom = 11,
 }
 
 impl Refusal {
-    // The number that stands for the refusal.
-    // A cast of this type's own numbers: a trait for all such types would want the same line in each impl.
+    // The number by which the refusal is reported.
     pub fn number(self) -> u8
         ensures { result ≡ number self }
     {
@@ -21,7 +20,7 @@ impl Refusal {
     }
 }
 
-// A refusal prints as the answer that it is: one impl for one type, since `Display` is a foreign trait, and none may serve all types at once.
+// A refusal prints as `answer=` and its number.
 impl fmt::Display for Refusal {
     ghost output = { λ refusal. Some (codes "answer=" ++ decimal (number refusal)) };
 

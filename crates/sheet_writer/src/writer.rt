@@ -6,16 +6,15 @@ use numerals::write_number;
 use sheet_text::{Entry, Key, Word};
 
 // Memory that is written, and the byte that is written next.
-// No `io::Cursor`: its `write` does not promise that the memory is the same loan, and `write!` promises nothing of lent memory.
+// Not an `io::Cursor`, whose contract does not say that the memory it writes to stays the one that was lent.
 #[derive(Drop)]
 pub(crate) struct Writer<'a> {
     pub(crate) out: &'a mut [u8],
     pub(crate) at: usize,
 }
 
-// Each function says that the memory is the same loan: no type says which part of a `&mut` is left alone.
+// The clause `same` of each function: the memory stays the one that was lent.
 impl<'a> Writer<'a> {
-    // Writes the bytes.
     fn bytes(&mut self, bytes: &[u8])
         requires { self.old.at + length bytes.now ≤ length self.old.out.now }
         ensures written { Put self.old.out.now self.old.at bytes.now self.new.out.now self.new.at }
@@ -26,7 +25,6 @@ impl<'a> Writer<'a> {
         self.at = end;
     }
 
-    // Writes the digits of the number.
     fn digits(&mut self, number: u16)
         requires { self.old.at + length (decimal number) ≤ length self.old.out.now }
         ensures written { Put self.old.out.now self.old.at (decimal number) self.new.out.now self.new.at }
@@ -35,7 +33,6 @@ impl<'a> Writer<'a> {
         self.at = write_number(self.out, self.at, u64::from(number)).unwrap();
     }
 
-    // Writes the value of the entry: a match, since each kind holds another type.
     fn value(&mut self, entry: Entry)
         requires { self.old.at + length (value_text entry) ≤ length self.old.out.now }
         ensures written { Put self.old.out.now self.old.at (value_text entry) self.new.out.now self.new.at }
@@ -51,7 +48,7 @@ impl<'a> Writer<'a> {
         }
     }
 
-    // Writes the line of the entry.
+    // Writes the entry's line: key, equals sign, value, line feed.
     fn line(&mut self, entry: Entry)
         requires { self.old.at + length (line_text entry) ≤ length self.old.out.now }
         ensures written { Put self.old.out.now self.old.at (line_text entry) self.new.out.now self.new.at }
@@ -63,7 +60,6 @@ impl<'a> Writer<'a> {
         self.bytes(b"\n");
     }
 
-    // Writes the lines of the entries.
     pub(crate) fn lines(&mut self, entries: &[Entry])
         requires { self.old.at + length (lines entries.now) ≤ length self.old.out.now }
         ensures written { Put self.old.out.now self.old.at (lines entries.now) self.new.out.now self.new.at }

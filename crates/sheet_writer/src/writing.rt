@@ -10,7 +10,7 @@ use crate::writer::Writer;
 use sheet::{Admitted, Values};
 use sheet_text::Entry;
 
-// So many bytes of memory are asked for, whatever the sheet.
+// How many bytes of memory are asked for, whatever the sheet; none has a longer text.
 pub const ROOM: usize = 128;
 
 // Writes the lines of the entries from the first byte on and answers where they end.
@@ -23,16 +23,17 @@ fn write_lines(out: &mut [u8], entries: &[Entry]) -> usize
     writer.at
 }
 
-// Writes the text of values that are fine into memory that is long enough.
+// Writes the text of admissible values into memory that is long enough.
 fn write_values(values: &Values, out: &mut [u8]) -> usize
-    requires fine { admissible values.now ≡ true }
+    requires valid { admissible values.now ≡ true }
     requires asked { room ≤ length out.old }
     ensures { Stands values.now out.old out.new result }
 {
     write_lines(out, &entries_of(values))
 }
 
-// Writes the text of the sheet and answers its length; the bytes behind it stay. Memory shorter than asked for is not written.
+// Writes the text of the sheet from the first byte on and answers its length in bytes; the bytes behind it stay.
+// Memory of less than `ROOM` bytes is refused and not altered.
 pub fn write_sheet(sheet: &Admitted, out: &mut [u8]) -> Result<usize, Refusal>
     ensures answers { Answers sheet.now.values out.old out.new result }
     ensures within { IfOk result (λ end. end ≤ length out.new) }

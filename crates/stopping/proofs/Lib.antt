@@ -5,3 +5,4 @@ mod Limits
 pub mod Gradients
 pub mod Margin
 pub mod Lawfully
+pub mod Given

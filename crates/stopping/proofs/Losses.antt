@@ -3,7 +3,7 @@ use Rattle.std.proofs.Common.{ℕ, ◌+◌, ◌*◌, ◌≤◌, List, le_of_lt, 
 use native.Mathlib.Nat.{lt_of_mul-lt-mul_left}
 use Rattle.units.specs.Fractions.{Fraction, whole, ◌≼◌, ◌≺◌, ◌⊕◌, ◌⊗◌}
 use Rattle.units.proofs.Quotients.{rounded_down as quotient-rounded}
-use Rattle.stopping.specs.Factors.{product, scaled, rounded_down, lost, Bounded, none, more, Loses, FactorLoses, FactorsLose}
+use Rattle.stopping.specs.Factors.{product, scale_down, product_down, total_loss, Bounded, none, more, Loses, FactorLoses, FactorsLose}
 use Rattle.stopping.specs.Stops.{Near}
 
 -- z is y f rounded down
@@ -16,11 +16,11 @@ one_loses l x f bound y z small before low high = record {
 pub factor_loses : FactorLoses
 factor_loses l x f bound y small before =
     let down = quotient-rounded (y * f.over) f.under f.above in
-    one_loses l x f bound y (scaled y f) small before down.within (le_of_lt down.greatest)
+    one_loses l x f bound y (scale_down y f) small before down.within (le_of_lt down.greatest)
 
-more_lose : {fs bounds : List Fraction} → Bounded fs bounds → (l x : Fraction) (y : ℕ) → Loses l x y → Loses (lost l bounds) (product x fs) (rounded_down y fs)
+more_lose : {fs bounds : List Fraction} → Bounded fs bounds → (l x : Fraction) (y : ℕ) → Loses l x y → Loses (total_loss l bounds) (product x fs) (product_down y fs)
 more_lose none l x y before = before
-more_lose (more {f} {bound} small rest) l x y before = more_lose rest (l ⊗ bound ⊕ whole 1) (x ⊗ f) (scaled y f) (factor_loses l x f bound y small before)
+more_lose (more {f} {bound} small rest) l x y before = more_lose rest (l ⊗ bound ⊕ whole 1) (x ⊗ f) (scale_down y f) (factor_loses l x f bound y small before)
 
 pub factors_lose : FactorsLose
 factors_lose start fs bounds h = more_lose h (whole 0) (whole start) start (record { at_most = omega arith; no_less = omega arith })
@@ -31,7 +31,7 @@ below_more l m x y h k =
     lt_of_mul-lt-mul_left l.under (omega (arith, mul-le-mul_right m.under k, mul-le-mul_right x.under h, x.above))
 
 -- where less than 9 is lost, the rounded product is near
-pub near : (start : ℕ) (fs bounds : List Fraction) → Bounded fs bounds → lost (whole 0) bounds ≺ whole 9 → Near (product (whole start) fs) (rounded_down start fs)
+pub near : (start : ℕ) (fs bounds : List Fraction) → Bounded fs bounds → total_loss (whole 0) bounds ≺ whole 9 → Near (product (whole start) fs) (product_down start fs)
 near start fs bounds h few =
     let all = factors_lose start fs bounds h in
-    record { down = all.at_most; close = below_more (lost (whole 0) bounds) (whole 9) (product (whole start) fs) (rounded_down start fs) few all.no_less }
+    record { down = all.at_most; close = below_more (total_loss (whole 0) bounds) (whole 9) (product (whole start) fs) (product_down start fs) few all.no_less }

@@ -1,20 +1,25 @@
 -- The verdict of a stop within limits keeps the laws of a braking model.
-use Rattle.std.proofs.Common.{◌≡◌, ℕ, suc, ◌+◌, ◌-◌, ◌*◌, ◌<◌, ◌≤◌, true, false, cond, ℤ, pos, negsuc, ◌+ℤ◌, ◌*ℤ◌, ◌≤ℤ◌, ◌<ℤ◌, refl, ap, mul-le-mul_right, lt_of_mul-lt-mul_right, mul-pos, one-mul, mul-one, le_of_mul-le-mul_right, arith, lit<, lit≤}
+use Rattle.std.proofs.Common.{◌≡◌, ℕ, suc, ◌+◌, ◌-◌, ◌*◌, ◌<◌, ◌≤◌, max, true, false, cond, ℤ, pos, negsuc, ◌+ℤ◌, ◌*ℤ◌, ◌≤ℤ◌, ◌<ℤ◌, refl, ap, mul-le-mul, mul-le-mul_right, lt_of_lt_of_le, lt_of_mul-lt-mul_right, mul-pos, one-mul, mul-one, le_of_mul-le-mul_right, arith, lit<, lit≤}
 use lib.Signed.{lt_z}
 use Rattle.std.proofs.lemmas.Int.{ints}
+use Rattle.std.specs.Int.{int_max}
 use Rattle.units.specs.Fractions.{Fraction, whole, ratio, ◌⊕◌}
 use Rattle.units.specs.Rounding.{ceiling, RoundedUp}
 use Rattle.units.proofs.Quotients.{rounded_up}
 use Rattle.braking.specs.Meaning.{weak, strong}
 use Rattle.braking.specs.Laws.{Within, Strong, Sound}
-use Rattle.stopping.specs.Stops.{Stop, Limited, Near, natural, target_steps, reached, reached_up, net, net_exact, net_positive, run, braked, lead, exact_control, exact_distances, computed_lead, computed_distances, verdict}
-use Rattle.stopping.specs.Working.{Lawful, Uncut}
+use Rattle.stopping.specs.Stops.{Stop, Limited, Near, natural, target_steps, speed_reached, speed_reached_up, net, net_exact, net_positive, speed_left, reaction_distance, braking_distance, lead_distance, exact_control, exact_distances, computed_lead, computed_distances, verdict}
+use Rattle.stopping.specs.Laws.{LawfulStop, Uncut}
 use Rattle.stopping.proofs.Terms.{sum_within, within_more, speed_term, braking_term}
 use Rattle.stopping.proofs.Reaching.{reached_not_below, reached_up_bounded}
 
 pub natural_is : (z : ℤ) (n : ℕ) → pos n ≤ℤ z → pos (natural z) ≡ z
 natural_is (pos a) n h = refl
 natural_is (negsuc a) n h = omega (arith, ints)
+
+larger_whole : (n : ℕ) (z : ℤ) → pos (max n (natural z)) ≡ int_max (pos n) z
+larger_whole n (pos a) = grind (arith, ints)
+larger_whole n (negsuc a) = grind (arith, ints)
 
 -- the exact net deceleration against the rounded one, by the sign of the slope
 net_down : (over under P D : ℕ) (G : ℤ) → pos D ≡ pos P +ℤ G → P * under ≤ over → pos (D * under) ≤ℤ (pos over +ℤ (pos under *ℤ G))
@@ -61,22 +66,22 @@ module _ (s : Stop) (limits : Limited s) (near : Near s.braking s.rounded) where
       let a = net_above s.braking.over s.braking.under s.rounded s.slope 500000 close h in
       let e : lt_z (net s) (pos 500000) ≡ false = grind (arith, ints) in rw e tt
 
-  up : RoundedUp (reached s).over (reached s).under (reached_up s)
-  unfolding reached reached_up
-  up = rounded_up (reached s).over (reached s).under (reached s).above
+  up : RoundedUp (speed_reached s).over (speed_reached s).under (speed_reached_up s)
+  unfolding speed_reached speed_reached_up
+  up = rounded_up (speed_reached s).over (speed_reached s).under (speed_reached s).above
 
   -- the term of a time, k b / m
-  time_term : (k m c : ℕ) → 100 * (k + m) ≤ c * m → 0 < m → (e : Fraction) → e.over ≡ k * (reached s).over → e.under ≡ (reached s).under * m → Within (ratio c 100) e (ceiling (k * reached_up s) m)
-  time_term k m c slack h e is-n is_m = speed_term (reached s) (reached_up s) k m c (ceiling (k * reached_up s) m) up (rounded_up (k * reached_up s) m h) slack e is-n is_m
+  time_term : (k m c : ℕ) → 100 * (k + m) ≤ c * m → 0 < m → (e : Fraction) → e.over ≡ k * (speed_reached s).over → e.under ≡ (speed_reached s).under * m → Within (ratio c 100) e (ceiling (k * speed_reached_up s) m)
+  time_term k m c slack h e is-n is_m = speed_term (speed_reached s) (speed_reached_up s) k m c (ceiling (k * speed_reached_up s) m) up (rounded_up (k * speed_reached_up s) m h) slack e is-n is_m
 
-  reaction_within : Within (ratio 267 100) (run s.reaction (reached s)) (ceiling (s.reaction * reached_up s) 3600000000)
+  reaction_within : Within (ratio 267 100) (reaction_distance s.reaction (speed_reached s)) (ceiling (s.reaction * speed_reached_up s) 3600000000)
   reaction_within = time_term s.reaction 3600000000 267 (omega (arith, limits.brief)) (lit< tt) _ (omega arith) (omega arith)
 
-  lead_within : (t : ℕ) → t ≤ 100 → Within (ratio 128 100) (lead t (reached s)) (computed_lead t (reached_up s))
+  lead_within : (t : ℕ) → t ≤ 100 → Within (ratio 128 100) (lead_distance t (speed_reached s)) (computed_lead t (speed_reached_up s))
   lead_within t h = time_term t 360 128 (omega arith) (lit< tt) _ (omega arith) (omega arith)
 
-  slower_up : target_steps s ≤ reached_up s
-  slower_up = le_of_mul-le-mul_right {k = (reached s).under} (omega (arith, reached_not_below s, up.reaches)) (reached s).above
+  slower_up : target_steps s ≤ speed_reached_up s
+  slower_up = le_of_mul-le-mul_right {k = (speed_reached s).under} (omega (arith, reached_not_below s, up.reaches)) (speed_reached s).above
 
   module _ (strong-enough : pos 500000 ≤ℤ net s) where
     D : ℕ
@@ -108,12 +113,12 @@ module _ (s : Stop) (limits : Limited s) (near : Near s.braking s.rounded) where
     d_positive : 0 < (net_positive s).over
     d_positive = omega (arith, d_not_above, mul-le-mul_right (net_positive s).under DLeast, (net_positive s).above)
 
-    braking_within : Within (ratio 7817 100) (braked (reached s) (target_steps s) (net_positive s)) (ceiling (625 * (reached_up s * reached_up s - target_steps s * target_steps s)) (162 * D))
+    braking_within : Within (ratio 7817 100) (braking_distance (speed_reached s) (target_steps s) (net_positive s)) (ceiling (625 * (speed_reached_up s * speed_reached_up s - target_steps s * target_steps s)) (162 * D))
     braking_within =
-        braking_term (reached s) (reached_up s) (target_steps s) (net_positive s) D _ up (reached_up_bounded s limits) (reached_not_below s) slower_up
+        braking_term (speed_reached s) (speed_reached_up s) (target_steps s) (net_positive s) D _ up (reached_up_bounded s limits) (reached_not_below s) slower_up
         d_not_above d_close DLeast (rounded_up _ (162 * D) (omega (arith, DLeast))) _
-        (over_is (reached s).over (reached s).under (target_steps s) (net_positive s).under)
-        (omega (arith, mul-pos (mul-pos (reached s).above (reached s).above) d_positive))
+        (over_is (speed_reached s).over (speed_reached s).under (target_steps s) (net_positive s).under)
+        (omega (arith, mul-pos (mul-pos (speed_reached s).above (speed_reached s).above) d_positive))
 
     control_within : Within (ratio 267 100 ⊕ ratio 7817 100) (exact_control s) (computed_distances s).control
     unfolding exact_control computed_distances D
@@ -122,8 +127,8 @@ module _ (s : Stop) (limits : Limited s) (near : Near s.braking s.rounded) where
     all_close : Sound (strong (exact_distances s) (computed_distances s))
     unfolding exact_distances computed_distances
     all_close =
-        let warning = sum_within control_within (lead_within s.tw limits.tw_brief) in
-        let nominal = sum_within warning (lead_within s.ti limits.ti_brief) in
+        let warning = sum_within control_within (lead_within s.warning limits.warning_brief) in
+        let nominal = sum_within warning (lead_within s.hysteresis limits.hysteresis_brief) in
         (within_more (whole 90) (lit≤ tt) control_within, within_more (whole 90) (lit≤ tt) warning, within_more (whole 90) (lit≤ tt) nominal)
 
   sound : Sound (verdict s)
@@ -134,8 +139,19 @@ module _ (s : Stop) (limits : Limited s) (near : Near s.braking s.rounded) where
         | false ↦ λ e. all_close (grind (arith, ints))
       ] refl
 
-  pub lawful : Lawful s
+  pub lawful : LawfulStop s
   lawful = record { weak_below = weak_below; strong_above = strong_above; sound = sound }
 
   pub uncut : Uncut s
-  uncut = record { not_below_target = omega (arith, reached_not_below s); net_whole = d_is; net_above = d_positive }
+  unfolding speed_reached D
+  uncut = record {
+    reached_whole = larger_whole (250000000000 * target_steps s) (speed_left s);
+    not_below_target = omega (arith, reached_not_below s);
+    squares = omega (arith, mul-le-mul (reached_not_below s) (reached_not_below s));
+    net_whole = d_is;
+    net_above = d_positive;
+    computed_not_below_target = slower_up;
+    computed_squares = mul-le-mul slower_up slower_up;
+    computed_net_whole = λ strong-enough. is_D strong-enough;
+    computed_net_above = λ strong-enough. lt_of_lt_of_le (lit< tt) (DLeast strong-enough);
+  }

@@ -3,7 +3,7 @@ use Rattle.std.proofs.Common.{◌≡◌, ℕ, suc, ◌+◌, ◌*◌, ◌<◌, �
 use Rattle.std.proofs.lemmas.Int.{ints}
 use Rattle.units.specs.Rounding.{Floored}
 use Rattle.units.proofs.Quotients.{rounded_up, is_ceiling}
-use Rattle.stopping.specs.Stops.{Stop, Limited, natural, target_steps, reached, reached_up}
+use Rattle.stopping.specs.Stops.{Stop, Limited, natural, target_steps, speed_reached, speed_reached_up}
 
 pub natural_at_most : (z : ℤ) (n : ℕ) → z ≤ℤ pos n → natural z ≤ n
 natural_at_most (pos a) n h = omega (arith, ints)
@@ -14,23 +14,12 @@ natural_at_least (pos a) = omega (arith, ints)
 natural_at_least (negsuc a) = omega (arith, ints)
 
 -- what the slope does until the brake acts, times 250,000,000,000
-pub loss_not_below : (T : ℕ) (G : ℤ) → T ≤ 6000000000 → negsuc 4199999 ≤ℤ G → negsuc 226799999999999999 ≤ℤ (pos (9 * T) *ℤ G)
+loss_not_below : (T : ℕ) (G : ℤ) → T ≤ 6000000000 → negsuc 4199999 ≤ℤ G → negsuc 226799999999999999 ≤ℤ (pos (9 * T) *ℤ G)
 loss_not_below T (pos n) h low = omega (arith, ints)
 loss_not_below T (negsuc n) h low =
     let k : suc n ≤ 4200000 = omega (arith, ints) in
     let j : 9 * T ≤ 54000000000 = omega arith in
     let m : (9 * T) * suc n ≤ 54000000000 * 4200000 = mul-le-mul j k in omega (arith, ints)
-
-pub loss_not_above : (T : ℕ) (G : ℤ) → T ≤ 6000000000 → G ≤ℤ pos 4200000 → (pos (9 * T) *ℤ G) ≤ℤ pos 226800000000000000
-loss_not_above T (pos n) h high =
-    let k : n ≤ 4200000 = omega (arith, ints) in
-    let j : 9 * T ≤ 54000000000 = omega arith in
-    let m : (9 * T) * n ≤ 54000000000 * 4200000 = mul-le-mul j k in omega (arith, ints)
-loss_not_above T (negsuc n) h high = omega (arith, ints)
-
-pub loss_small : (x q : ℤ) → Floored x 250000000000 q → negsuc 226799999999999999 ≤ℤ x → x ≤ℤ pos 226800000000000000 → (negsuc 907199 ≤ℤ q) × (q ≤ℤ pos 907200)
-loss_small x (pos n) f low high = (omega (arith, ints), omega (arith, ints, f.within))
-loss_small x (negsuc n) f low high = (omega (arith, ints, f.greatest), omega (arith, ints))
 
 -- the least number from the exact speed up, where q is x / 250,000,000,000 rounded down
 ahead : (v r : ℕ) (x q : ℤ) → Floored x 250000000000 q → (pos (1000 * v) -ℤ q) ≤ℤ pos r → (pos (250000000000 * (1000 * v)) -ℤ x) ≤ℤ pos (r * 250000000000)
@@ -56,19 +45,19 @@ module _ (s : Stop) (q : ℤ) (r : ℕ) (f : Floored (pos (9 * s.reaction) *ℤ 
     | inr is ↦ omega arith
   ]
 
-  pub is_reached_up : r ≡ reached_up s
-  unfolding reached_up reached rest
+  pub is_reached_up : r ≡ speed_reached_up s
+  unfolding speed_reached_up speed_reached rest
   is_reached_up = is_ceiling (max (250000000000 * target_steps s) (natural rest)) 250000000000 r (omega arith) (record { reaches = omega (arith, up_to); least = close })
 
-pub reached_not_below : (s : Stop) → 1000 * s.target * (reached s).under ≤ (reached s).over
-unfolding reached
+pub reached_not_below : (s : Stop) → 1000 * s.target * (speed_reached s).under ≤ (speed_reached s).over
+unfolding speed_reached
 reached_not_below s = omega arith
 
-pub reached_up_bounded : (s : Stop) → Limited s → reached_up s ≤ 5000000
-unfolding reached_up reached
+pub reached_up_bounded : (s : Stop) → Limited s → speed_reached_up s ≤ 5000000
+unfolding speed_reached_up speed_reached
 reached_up_bounded s h =
     let z : ℤ = pos (250000000000 * (1000 * s.speed)) -ℤ (pos (9 * s.reaction) *ℤ s.slope) in
     let low = loss_not_below s.reaction s.slope h.brief h.not_steeper_down in
     let n : natural z ≤ 1226800000000000000 = natural_at_most z 1226800000000000000 (omega (arith, ints, h.slow)) in
     let up = rounded_up (max (250000000000 * target_steps s) (natural z)) 250000000000 (omega arith) in
-    omega (arith, up.least, h.slow, h.lower)
+    omega (arith, up.least, h.slow, h.target_slow)

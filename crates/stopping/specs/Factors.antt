@@ -8,13 +8,13 @@ product x [] = x
 product x (f ∷ fs) = product (x ⊗ f) fs
 
 -- One product rounded down.
-abbrev pub scaled : ℕ → Fraction → ℕ
-scaled y f = y * f.over / f.under
+abbrev pub scale_down : ℕ → Fraction → ℕ
+scale_down y f = y * f.over / f.under
 
 -- The product, rounded down after each factor.
-abbrev pub rounded_down : ℕ → List Fraction → ℕ
-rounded_down y [] = y
-rounded_down y (f ∷ fs) = rounded_down (scaled y f) fs
+abbrev pub product_down : ℕ → List Fraction → ℕ
+product_down y [] = y
+product_down y (f ∷ fs) = product_down (scale_down y f) fs
 
 -- y is at most x, and x is at most y and l.
 pub record Loses (l x : Fraction) (y : ℕ) : Type 0 where
@@ -22,9 +22,9 @@ pub record Loses (l x : Fraction) (y : ℕ) : Type 0 where
   pub no_less : x ≼ whole y ⊕ l
 
 -- What is lost at the most, where l was lost before and each factor is at most its bound: the bound multiplies it, and rounding down loses 1 more.
-abbrev pub lost : Fraction → List Fraction → Fraction
-lost l [] = l
-lost l (bound ∷ bounds) = lost (l ⊗ bound ⊕ whole 1) bounds
+abbrev pub total_loss : Fraction → List Fraction → Fraction
+total_loss l [] = l
+total_loss l (bound ∷ bounds) = total_loss (l ⊗ bound ⊕ whole 1) bounds
 
 -- Each factor is at most its bound.
 pub data Bounded : List Fraction → List Fraction → Type 0 where
@@ -33,8 +33,8 @@ pub data Bounded : List Fraction → List Fraction → Type 0 where
 
 -- One more factor f of at most bound: what was lost grows by at most the bound, and 1.
 abbrev pub FactorLoses : Type 0
-FactorLoses = (l x f bound : Fraction) (y : ℕ) → f ≼ bound → Loses l x y → Loses (l ⊗ bound ⊕ whole 1) (x ⊗ f) (scaled y f)
+FactorLoses = (l x f bound : Fraction) (y : ℕ) → f ≼ bound → Loses l x y → Loses (l ⊗ bound ⊕ whole 1) (x ⊗ f) (scale_down y f)
 
 -- The rule for all factors together, from any start.
 abbrev pub FactorsLose : Type 0
-FactorsLose = (start : ℕ) (fs bounds : List Fraction) → Bounded fs bounds → Loses (lost (whole 0) bounds) (product (whole start) fs) (rounded_down start fs)
+FactorsLose = (start : ℕ) (fs bounds : List Fraction) → Bounded fs bounds → Loses (total_loss (whole 0) bounds) (product (whole start) fs) (product_down start fs)

@@ -1,6 +1,6 @@
 pub mod Factors
 pub mod Slopes
 pub mod Stops
-pub mod Working
-pub mod Shown
 pub mod Meanings
+pub mod Steps
+pub mod Laws

@@ -2,7 +2,7 @@ ghost use Rattle.std.specs.Prelude.{◌≤◌};
 
 use units::Time;
 
-// How long a brake takes to act, at most a minute.
+// How long a brake takes to act once it is called for, at most a minute.
 #[derive(Clone, Copy, Debug, PartialEq, Eq)]
 pub struct ReactionTime {
     pub time: Time,

@@ -4,49 +4,64 @@ ghost use Rattle.stopping.specs.Slopes.{share_of, slope_of};
 use braking::Approach;
 use units::{Deceleration, Grade};
 
-// the shares of a grade that are counted on, in hundredths: uphill, downhill to GENTLE thousandths, and steeper
-const UPHILL_SHARE: i64 = 90;
+// A share of a grade, in hundredths.
+#[derive(Clone, Copy)]
+struct GradeShare {
+    hundredths: i64,
+}
 
-const GENTLE_SHARE: i64 = 100;
+// The shares that are counted on: uphill, downhill as far as `GENTLE`, and on steeper falls.
+const UPHILL: GradeShare = GradeShare { hundredths: 90 };
 
-const STEEP_SHARE: i64 = 110;
+const DOWNHILL: GradeShare = GradeShare { hundredths: 100 };
+
+const STEEP: GradeShare = GradeShare { hundredths: 110 };
 
 const LEVEL: Grade = Grade { thousandths: 0 };
 
 const GENTLE: Grade = Grade { thousandths: -20 };
 
-// what a hundredth of a thousandth of grade does, in units
+// What a hundredth of a thousandth of grade does, in units: gravity is 9.81 m/s².
 const HUNDREDTH: i64 = 981;
 
-// The share of a grade that is counted on, in hundredths.
-fn share(grade: Grade) -> i64
-    ensures { result ≡ pos (share_of grade.thousandths) }
+// A grade by the share of it that is counted on, in hundredths of a thousandth.
+#[derive(Clone, Copy)]
+struct CountedGrade {
+    hundredths: i64,
+    ghost not_below: { negsuc 3849 ≤ℤ hundredths },
+    ghost not_above: { hundredths ≤ℤ pos 3150 },
+}
+
+// The share of a grade that is counted on.
+fn share(grade: Grade) -> GradeShare
+    ensures { result.hundredths ≡ pos (share_of grade.thousandths) }
 {
     if grade > LEVEL {
-        UPHILL_SHARE
+        UPHILL
     } else if grade >= GENTLE {
-        GENTLE_SHARE
+        DOWNHILL
     } else {
-        STEEP_SHARE
+        STEEP
     }
 }
 
-// What gravity does on a grade, in hundredths of a thousandth: below zero downhill.
-fn by_gravity(hundredths: i64) -> Deceleration
-    requires not_below { negsuc 3849 ≤ℤ hundredths }
-    requires not_above { hundredths ≤ℤ pos 3150 }
-    ensures { result.units ≡ hundredths *ℤ pos 981 }
+// What gravity does on a grade: below zero downhill.
+fn by_gravity(counted: CountedGrade) -> Deceleration
+    ensures { result.units ≡ counted.hundredths *ℤ pos 981 }
 {
     Deceleration {
-        units: hundredths * HUNDREDTH,
+        units: counted.hundredths * HUNDREDTH,
     }
 }
 
 // What the grade adds to the deceleration, below zero downhill: 981 units for a thousandth and a hundredth of its share.
 pub fn slope(approach: Approach) -> Deceleration
-    ensures value { result.units ≡ slope_of approach.grade.thousandths }
+    ensures value { result.units ≡ slope_of approach.grade }
     ensures not_below { negsuc 4199999 ≤ℤ result.units }
     ensures not_above { result.units ≤ℤ pos 4200000 }
 {
-    by_gravity(share(approach.grade) * approach.grade.thousandths)
+    let grade = approach.grade();
+    by_gravity(CountedGrade {
+        hundredths: share(grade).hundredths * grade.thousandths,
+    })
 }

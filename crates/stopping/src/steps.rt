@@ -4,9 +4,11 @@ use units::{Deceleration, FineSpeed, Time};
 // The steps from a question to its answer, in order.
 #[derive(Clone, Copy, Debug, PartialEq, Eq)]
 pub struct Steps {
+    // how long the brake takes to act
     pub reaction: Time,
+    // what the slope does, below zero downhill
     pub slope: Deceleration,
-    // the speed that the train has reached when the brake acts, rounded up
+    // the speed that the train has when the brake acts, rounded up
     pub reached: FineSpeed,
     // what brake and slope do together, rounded down
     pub net: Deceleration,

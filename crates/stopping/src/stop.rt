@@ -1,27 +1,25 @@
 ghost use Rattle.std.specs.Prelude.{◌≤◌, pos, negsuc, ◌≤ℤ◌};
+ghost use Rattle.units.specs.declared.limits.TheConstants.{FASTEST};
 
+use crate::brake_deceleration::BrakeDeceleration;
 use crate::lead_times::LeadTimes;
 use crate::reaction_time::ReactionTime;
 use units::{Deceleration, Speed};
 
-// All that a stop is worked out from, within the limits for which the margin of the distances is proved.
+// The numbers that a braking from one speed to another is worked out from, within the limits for which the margin of the distances is proved. They are of no model: a model fills them in for a question that it answers.
 #[derive(Clone, Copy, Debug, PartialEq, Eq)]
 pub struct Stop {
     pub speed: Speed,
+    // not necessarily below the speed
     pub target: Speed,
-    // how long the brake takes to act
     pub reaction: ReactionTime,
     // what the slope does, below zero downhill
     pub slope: Deceleration,
-    // what the brake does by itself, rounded down
-    pub braking: Deceleration,
-    // the warning and the hysteresis time
+    // what the brake does, rounded down
+    pub braking: BrakeDeceleration,
     pub lead: LeadTimes,
-    // no `Approach`, which asks more: here the target may be the speed itself
-    ghost slow: { speed.tenths ≤ 4000 },
-    ghost lower: { target.tenths ≤ speed.tenths },
+    ghost slow: { speed.tenths ≤ FASTEST.tenths },
+    ghost target_slow: { target.tenths ≤ FASTEST.tenths },
     ghost not_steeper_down: { negsuc 4199999 ≤ℤ slope.units },
     ghost not_steeper_up: { slope.units ≤ℤ pos 4200000 },
-    ghost braking_on: { pos 0 ≤ℤ braking.units },
-    ghost braking_bounded: { braking.units ≤ℤ pos 1000000000 },
 }

@@ -1,2 +1,5 @@
 mod Items
+mod Grades
+mod Verdicts
 pub mod Promises
+pub mod Follows

@@ -1,65 +1,44 @@
--- What the two lists hold, and what the calls do to them.
-use Rattle.std.specs.Prelude.{◌≡◌, ℕ, ◌+◌, ◌-◌, Bool, not, List, [], ◌∷◌, ℤ, Some, None, Ok, Err, Result, ◌==◌}
-use Rattle.units.specs.declared.quantities.Grade.{Grade}
+-- What the lists of a mission hold, and what the calls do to them.
+use Rattle.std.specs.Prelude.{◌≡◌, min, List, length, Some, None, Ok, Err, Result}
 use Rattle.calls.specs.declared.refusal.Refusal.{Refusal}
-use Rattle.calls.specs.declared.refusal.Refusal.TheVariants.{Taken, Full}
-use Rattle.history.specs.History.{Section, Target}
-use Rattle.history.specs.Step.{Ground, begins_at, first, ground_for, numbered, without}
-use Rattle.place_list.specs.Insertion.{placed_in}
-use Rattle.place_list.specs.Places.{place_of}
-use Rattle.place_list.specs.Sequence.{Kept, Unaltered, room, sequence}
-use Rattle.place_list.specs.declared.list.PlaceList.{PlaceList}
-use Rattle.place_list.specs.declared.placed.Placed.{Placed}
-use Rattle.zones.specs.Items.{sections_in, targets_in}
-use Rattle.zones.specs.declared.target.Target.{Target as TargetItem}
+use Rattle.history.specs.State.{Capacity, Track, empty_track, full_capacity}
+use Rattle.history.specs.Step.{Ground, first}
+use Rattle.place_list.specs.Sequence.{Kept, Unaltered, loan_of, memory_of}
+use Rattle.supervision.specs.Adding.{list_of}
+use Rattle.supervision.specs.Items.{section_of, target_of}
+use Rattle.supervision.specs.declared.lists.Lists.{Lists}
+use Rattle.supervision.specs.declared.memory.Memory.{Memory}
 
--- The sections of the one list and the targets of the other, in order.
-abbrev pub sections_of : PlaceList Grade → List Section
-sections_of l = sections_in (sequence l)
+-- What stands in the lists, and how much room there is.
+abbrev pub track_of : Lists → Track
+track_of ls = record { sections = list_of section_of ls.sections; targets = list_of target_of ls.targets }
 
-abbrev pub targets_of : PlaceList TargetItem → List Target
-targets_of l = targets_in (sequence l)
+-- How much fits into lent memory.
+abbrev pub capacity_of : Memory → Capacity
+capacity_of memory = record {
+  sections = min full_capacity.sections (length memory.sections.now);
+  targets = min full_capacity.targets (length memory.targets.now);
+}
 
--- Why an item is not added: one stands in its way, or no more fit.
-abbrev pub add_grounds : {T : Type 0} → Bool → PlaceList T → List Ground
-add_grounds taken l = ground_for taken Taken ∷ ground_for (room l == 0) Full ∷ []
+-- The track of a mission as opened, in lent memory.
+abbrev pub opened_track : Memory → Track
+opened_track memory = empty_track (capacity_of memory)
 
--- The item is there where nothing stands in the way, and else nothing is altered.
-abbrev pub Added : {T : Type 0} → Bool → Placed T → (before after : PlaceList T) → Result (Unit {0}) Refusal → Type 0
-Added taken x before after (Ok _) =
-    (first (add_grounds taken before) ≡ None) × (sequence after ≡ placed_in place_of x (sequence before)) × (room after ≡ room before - 1) × Kept before after
-Added taken x before after (Err e) = (first (add_grounds taken before) ≡ Some e) × Unaltered before after × Kept before after
+-- The lists use just that lent memory, and it holds what they leave in it.
+pub record LentBy (memory : Memory) (ls : Lists) : Type 0 where
+  pub section_memory : memory_of ls.sections ≡ memory.sections.now
+  pub section_loan : loan_of ls.sections ≡ memory.sections.ghost_name
+  pub target_memory : memory_of ls.targets ≡ memory.targets.now
+  pub target_loan : loan_of ls.targets ≡ memory.targets.ghost_name
 
--- So it is with a section.
-abbrev pub section_grounds : (place : ℕ) → PlaceList Grade → List Ground
-section_grounds place l = add_grounds (begins_at place (sections_of l)) l
+-- What any call keeps of the lists, and lists that are not altered at all.
+abbrev pub ListsKept : (before after : Lists) → Type 0
+ListsKept before after = Kept before.sections after.sections × Kept before.targets after.targets
 
-abbrev pub SectionAdded : (place : ℕ) (grade : ℤ) (before after : PlaceList Grade) → Result (Unit {0}) Refusal → Type 0
-SectionAdded place grade before after (Ok _) =
-    (first (section_grounds place before) ≡ None)
-    × (sections_of after ≡ placed_in (λ (x : Section). x.place) (record { place = place; grade = grade }) (sections_of before))
-    × (room after ≡ room before - 1)
-    × Kept before after
-SectionAdded place grade before after (Err e) = (first (section_grounds place before) ≡ Some e) × Unaltered before after × Kept before after
+abbrev pub ListsUnaltered : (before after : Lists) → Type 0
+ListsUnaltered before after = Unaltered before.sections after.sections × Unaltered before.targets after.targets
 
--- And with a target.
-abbrev pub target_grounds : (number : ℕ) → PlaceList TargetItem → List Ground
-target_grounds number l = add_grounds (numbered number (targets_of l)) l
-
-abbrev pub TargetAdded : (number place speed : ℕ) (before after : PlaceList TargetItem) → Result (Unit {0}) Refusal → Type 0
-TargetAdded number place speed before after (Ok _) =
-    (first (target_grounds number before) ≡ None)
-    × (targets_of after ≡ placed_in (λ (t : Target). t.place) (record { number = number; place = place; speed = speed }) (targets_of before))
-    × (room after ≡ room before - 1)
-    × Kept before after
-TargetAdded number place speed before after (Err e) = (first (target_grounds number before) ≡ Some e) × Unaltered before after × Kept before after
-
--- The target is gone where it stood, and else nothing is altered.
-abbrev pub TargetTakenOut : (number : ℕ) (before after : PlaceList TargetItem) → Result (Unit {0}) Refusal → Type 0
-TargetTakenOut number before after (Ok _) =
-    (first (ground_for (not (numbered number (targets_of before))) Taken ∷ []) ≡ None)
-    × (targets_of after ≡ without number (targets_of before))
-    × (room after ≡ room before + 1)
-    × Kept before after
-TargetTakenOut number before after (Err e) =
-    (first (ground_for (not (numbered number (targets_of before))) Taken ∷ []) ≡ Some e) × Unaltered before after × Kept before after
+-- Where no ground holds the lists are then as this track says; else the first ground that holds is answered, and nothing is altered.
+abbrev pub Changes : List Ground → Track → (before after : Lists) → Result (Unit {0}) Refusal → Type 0
+Changes grounds changed before after (Ok _) = (first grounds ≡ None) × (track_of after ≡ changed) × ListsKept before after
+Changes grounds changed before after (Err r) = (first grounds ≡ Some r) × ListsUnaltered before after × ListsKept before after

@@ -1,35 +1,28 @@
 -- A mission with its lists as the state of a step, and what a call of it promises.
-use Rattle.std.specs.Prelude.{◌≡◌, ℕ, [], ◌∷◌, ◌++◌, Some, None, Ok, Err, Result}
+use Rattle.std.specs.Prelude.{◌≡◌, [], ◌∷◌, ◌++◌, Some, None, Ok, Err, Result}
+use Rattle.sheet.specs.declared.values.Values.{Values}
 use Rattle.braking.specs.Meaning.{Meaning}
 use Rattle.calls.specs.Answers.{Answer}
 use Rattle.calls.specs.declared.call.Call.{Call}
 use Rattle.calls.specs.declared.phase.Phase.{Phase}
 use Rattle.calls.specs.declared.record.Record.{Record}
 use Rattle.calls.specs.declared.refusal.Refusal.{Refusal}
+use Rattle.history.specs.Agrees.{Agrees}
 use Rattle.history.specs.History.{History}
-use Rattle.history.specs.Lines.{KeepsTheLines}
-use Rattle.history.specs.Runs.{Led}
-use Rattle.history.specs.Step.{State, step}
-use Rattle.place_list.specs.Sequence.{Kept, Unaltered, room}
-use Rattle.supervision.specs.Lists.{sections_of, targets_of}
+use Rattle.history.specs.State.{State}
+use Rattle.history.specs.Step.{step}
+use Rattle.supervision.specs.Lists.{ListsKept, ListsUnaltered, track_of}
 use Rattle.supervision.specs.declared.lists.Lists.{Lists}
 use Rattle.supervision.specs.declared.mission.Mission.{Mission}
 use Rattle.supervision.specs.declared.sampled.Sampled.{Sampled}
 
--- The share of an announced distance that is cut off, by the mission's sheet.
-abbrev pub eps_of : {M : Type 0} → Mission M → ℕ
-eps_of m = m.sheet.values.eps
+-- The mission's sheet.
+abbrev pub sheet_of : {M : Type 0} → Mission M → Values
+sheet_of m = m.sheet.values
 
--- The mission with its two lists.
+-- The mission with its lists.
 abbrev pub state_of : {M : Type 0} → Mission M → Lists → State
-state_of m ls = record {
-  sections = sections_of ls.sections;
-  section_room = room ls.sections;
-  targets = targets_of ls.targets;
-  target_room = room ls.targets;
-  phase = m.phase;
-  clear = m.clear;
-}
+state_of m ls = record { track = track_of ls; phase = m.phase; clear = m.clear }
 
 -- The answer in a result.
 abbrev pub answer_of : Result Phase Refusal → Answer
@@ -48,20 +41,17 @@ pub record SameTrain {M : Type 0} (before after : Mission M) : Type 0 where
 -- The call c was answered a: what it was answered and what is then there is by the step; the sheet, the model and whose memory it is stay,
 -- and a refusal alters nothing.
 pub record Made {M : Type 0} (meaning : M → Meaning) (c : Call) (a : Answer) (before after : Mission M) (ls ls' : Lists) : Type 0 where
-  pub answer : a ≡ (step (eps_of before) (meaning before.model) (state_of before ls) c).answer
-  pub state : state_of after ls' ≡ (step (eps_of before) (meaning before.model) (state_of before ls) c).state
+  pub answer : a ≡ (step (sheet_of before) (meaning before.model) (state_of before ls) c).answer
+  pub state : state_of after ls' ≡ (step (sheet_of before) (meaning before.model) (state_of before ls) c).state
   pub train : SameTrain before after
-  pub sections_kept : Kept ls.sections ls'.sections
-  pub targets_kept : Kept ls.targets ls'.targets
-  pub nothing : (r : Refusal) → a ≡ Err r → (after ≡ before) × Unaltered ls.sections ls'.sections × Unaltered ls.targets ls'.targets
+  pub kept : ListsKept ls ls'
+  pub nothing : (r : Refusal) → a ≡ Err r → (after ≡ before) × ListsUnaltered ls ls'
 
 -- The entry that the call leaves in the history.
 abbrev pub entry : {M : Type 0} → Call → Answer → Mission M → Record
 entry c a after = record { call = c; answer = a; phase = after.phase }
 
--- Whatever history led to the state before the call: with the call behind it, it leads to the state after it and keeps the three lines.
-pub record Law {M : Type 0} (meaning : M → Meaning) (c : Call) (a : Answer) (before after : Mission M) (ls ls' : Lists) : Type 0 where
-  pub leads : (h : History) → Led (eps_of before) (meaning before.model) h (state_of before ls) →
-      Led (eps_of after) (meaning after.model) (h ++ entry c a after ∷ []) (state_of after ls')
-  pub keeps : (h : History) → Led (eps_of before) (meaning before.model) h (state_of before ls) →
-      KeepsTheLines (eps_of after) (meaning after.model) (h ++ entry c a after ∷ [])
+-- Whatever history keeps the three lines and agrees with the mission and its lists before the call: with the call behind it, it does so after the call.
+abbrev pub Law : {M : Type 0} → (M → Meaning) → Call → Answer → (before after : Mission M) → (ls ls' : Lists) → Type 0
+Law meaning c a before after ls ls' = (h : History) → Agrees (sheet_of before) (meaning before.model) h (state_of before ls) →
+    Agrees (sheet_of after) (meaning after.model) (h ++ entry c a after ∷ []) (state_of after ls')

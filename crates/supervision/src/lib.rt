@@ -1,10 +1,23 @@
 #![tactic(auto)]
 
+mod announced;
+mod journey;
 mod limits;
 mod lists;
+mod memory;
 mod mission;
+mod running;
 mod sampled;
+mod stretch;
+mod target;
+mod zones;
 
-pub use lists::{Lists, MOST_SECTIONS, MOST_TARGETS};
+pub use announced::target_place;
+pub use journey::Journey;
+pub use lists::Lists;
+pub use memory::{MAX_SECTIONS, MAX_TARGETS, Memory};
 pub use mission::Mission;
+pub use running::run;
 pub use sampled::Sampled;
+pub use stretch::Stretch;
+pub use target::Target;

@@ -1,15 +1,15 @@
 ghost use Rattle.std.specs.Prelude.{◌≡◌};
-ghost use Rattle.history.specs.Step.{first};
-ghost use Rattle.supervision.specs.Limits.{refusal_in, sample_limits, slope_limits};
+ghost use Rattle.braking.specs.Meaning.{Meaning};
+ghost use Rattle.calls.specs.declared.call.Call.TheVariants.{Sample, Slope};
+ghost use Rattle.history.specs.Step.{first, limits};
+ghost use Rattle.supervision.specs.Limits.{refusal_in};
 
 use calls::Refusal;
 use units::{Distance, FASTEST, FURTHEST, Grade, STEEPEST_FALL, STEEPEST_RISE, Speed};
 
-// The parameters are the call's own fields by name, each asked by itself.
-
-// Whether a section is within limits.
-pub(crate) fn ask_slope(place: Distance, grade: Grade) -> Result<(), Refusal>
-    ensures { first (slope_limits place.millimetres grade.thousandths) ≡ refusal_in result }
+// Whether a section's place and grade are within limits.
+pub(crate) fn check_slope(place: Distance, grade: Grade) -> Result<(), Refusal>
+    ensures { (m : Meaning) → first (limits m (Slope place grade)) ≡ refusal_in result }
 {
     if place > FURTHEST {
         return Err(Refusal::PlaceOutOfLimits);
@@ -20,9 +20,9 @@ pub(crate) fn ask_slope(place: Distance, grade: Grade) -> Result<(), Refusal>
     Ok(())
 }
 
-// Whether a sample is within limits. Only the first question is that of a section, so that the two are no twins.
-pub(crate) fn ask_sample(place: Distance, speed: Speed) -> Result<(), Refusal>
-    ensures { first (sample_limits place.millimetres speed.tenths) ≡ refusal_in result }
+// Whether a sample's place and speed are within limits, which no model sets.
+pub(crate) fn check_sample(place: Distance, speed: Speed) -> Result<(), Refusal>
+    ensures { (m : Meaning) → first (limits m (Sample place speed)) ≡ refusal_in result }
 {
     if place > FURTHEST {
         return Err(Refusal::PlaceOutOfLimits);

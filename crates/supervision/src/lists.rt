@@ -1,81 +1,109 @@
-ghost use Rattle.std.specs.Prelude.{◌≡◌, min, [], length};
-ghost use Rattle.place_list.specs.Sequence.{loan_of, memory_of, room};
-ghost use Rattle.supervision.specs.Lists.{Added, SectionAdded, TargetAdded, TargetTakenOut, sections_of, targets_of};
+ghost use Rattle.std.specs.Prelude.{◌≡◌, ◌≤◌, true, false};
+ghost use Rattle.history.specs.State.{is_unfit, valid_sections, valid_targets};
+ghost use Rattle.place_list.specs.Sequence.{capacity, sequence};
+ghost use Rattle.supervision.specs.Items.{sections_in, targets_in};
+ghost use Rattle.supervision.specs.Adding.{Added};
 
+use crate::memory::{MAX_SECTIONS, MAX_TARGETS, Memory};
+use crate::target::Target;
 use calls::Refusal;
 use place_list::{Keyed, PlaceList, Placed};
 use units::Grade;
-use zones::Target;
 
-// How many sections and targets a mission's lists hold at most.
-pub const MOST_SECTIONS: usize = 64;
-
-pub const MOST_TARGETS: usize = 32;
-
-// The two lists of a mission, which go with each of its calls.
+// The lists of a mission: what stands along its line, in memory that a caller lends. They are made with their mission, go with each of its calls, and only those alter them.
 #[derive(Drop)]
 pub struct Lists<'a> {
-    pub sections: PlaceList<'a, Grade>,
-    pub targets: PlaceList<'a, Target>,
+    sections: PlaceList<'a, Grade>,
+    targets: PlaceList<'a, Target>,
+    pub ghost few_sections: { capacity sections ≤ 64 },
+    pub ghost few_targets: { capacity targets ≤ 32 },
+    // each section begins further on than the one before it, and its grade is within limits
+    pub ghost sections_valid: { valid_sections (sections_in (sequence sections)) ≡ true },
+    // no two targets have the same number
+    pub ghost targets_valid: { valid_targets (targets_in (sequence targets)) ≡ true },
 }
 
 impl<'a> Lists<'a> {
-    // A mission's lists, empty, over the caller's memory: at most 64 sections and 32 targets, fewer in shorter memory.
-    pub fn new(sections: &'a mut [Placed<Grade>], targets: &'a mut [Placed<Target>]) -> Lists<'a>
-        ensures no_sections { sections_of result.sections ≡ [] }
-        ensures no_targets { targets_of result.targets ≡ [] }
-        ensures section_room { room result.sections ≡ min 64 (length sections.old) }
-        ensures target_room { room result.targets ≡ min 32 (length targets.old) }
-        ensures section_memory { memory_of result.sections ≡ sections.old }
-        ensures target_memory { memory_of result.targets ≡ targets.old }
-        ensures sections_lent { loan_of result.sections ≡ sections.entry.ghost_name }
-        ensures targets_lent { loan_of result.targets ≡ targets.entry.ghost_name }
+    ghost use Rattle.history.specs.Step.{section_obstacles, target_obstacles, with_section, with_target, withdrawal_obstacles, without_target};
+    ghost use Rattle.supervision.specs.Items.{section_of, target_of};
+    ghost use Rattle.supervision.specs.Lists.{Changes, LentBy, opened_track, track_of};
+
+    // The empty lists of a mission that is opened: at most 64 sections and 32 targets, fewer in shorter memory.
+    pub(crate) fn new(memory: Memory<'a>) -> Lists<'a>
+        ensures empty { track_of result ≡ opened_track memory.entry }
+        ensures lent { LentBy memory.entry result }
     {
         Lists {
-            sections: PlaceList::new(sections, MOST_SECTIONS),
-            targets: PlaceList::new(targets, MOST_TARGETS),
+            sections: PlaceList::new(memory.sections, MAX_SECTIONS),
+            targets: PlaceList::new(memory.targets, MAX_TARGETS),
         }
+    }
+
+    // The sections, in the order of their places.
+    pub fn sections(&self) -> &[Placed<Grade>]
+        ensures { result.now ≡ sequence self.now.sections }
+    {
+        self.sections.items()
+    }
+
+    // The targets, in the order of their places.
+    pub fn targets(&self) -> &[Placed<Target>]
+        ensures { result.now ≡ sequence self.now.targets }
+    {
+        self.targets.items()
+    }
+
+    // The memory goes back to the caller, with the items at the start of each part.
+    pub fn give_up(self) -> Memory<'a>
+        ensures { LentBy result self.entry }
+    {
+        let Lists { sections, targets } = self;
+        Memory {
+            sections: sections.give_up(),
+            targets: targets.give_up(),
+        }
+    }
+
+    // Adds a section, unless one begins at the place or no more fit.
+    pub(crate) fn add_section(&mut self, new: Placed<Grade>) -> Result<(), Refusal>
+        requires { is_unfit new.item.thousandths ≡ false }
+        ensures changes { Changes (section_obstacles new.place.millimetres (track_of self.old)) (with_section (section_of new) (track_of self.old)) self.old self.new result }
+        ensures targets { self.new.targets ≡ self.old.targets }
+    {
+        let taken = self.sections.find_place(new.place).is_some();
+        add(&mut self.sections, taken, new)
+    }
+
+    // Adds a target, unless its number is taken or no more fit.
+    pub(crate) fn add_target(&mut self, new: Placed<Target>) -> Result<(), Refusal>
+        ensures changes { Changes (target_obstacles new.item.number (track_of self.old)) (with_target (target_of new) (track_of self.old)) self.old self.new result }
+        ensures sections { self.new.sections ≡ self.old.sections }
+    {
+        let taken = self.targets.find_key(new.item.key()).is_some();
+        add(&mut self.targets, taken, new)
+    }
+
+    // Takes the target with the number out, if there is one.
+    pub(crate) fn take_target(&mut self, number: u16) -> Result<(), Refusal>
+        ensures changes { Changes (withdrawal_obstacles number (track_of self.old)) (without_target number (track_of self.old)) self.old self.new result }
+        ensures sections { self.new.sections ≡ self.old.sections }
+    {
+        let at = self
+            .targets
+            .find_key(u64::from(number))
+            .ok_or(Refusal::Conflict)?;
+        // the index is that of a target, so the `unwrap` never fails
+        self.targets.take_out(at).unwrap();
+        Ok(())
     }
 }
 
-// Adds a section, unless one begins at the place or no more fit.
-pub(crate) fn add_section(
-    sections: &mut PlaceList<'_, Grade>,
-    new: Placed<Grade>,
-) -> Result<(), Refusal>
-    ensures { SectionAdded new.place.millimetres new.item.thousandths sections.old sections.new result }
-{
-    let taken = sections.find_place(new.place).is_some();
-    add(sections, taken, new)
-}
-
-// Adds a target, unless its number is taken or no more fit.
-pub(crate) fn add_target(
-    targets: &mut PlaceList<'_, Target>,
-    new: Placed<Target>,
-) -> Result<(), Refusal>
-    ensures { TargetAdded new.item.number new.place.millimetres new.item.speed.tenths targets.old targets.new result }
-{
-    let taken = targets.find_key(new.item.key()).is_some();
-    add(targets, taken, new)
-}
-
-// Adds an item, unless one stands in its way or no more fit. The list and the item come as two: a struct of both would be built for one call.
+// Adds an item, unless one stands in its way or no more fit.
 fn add<T: Copy>(list: &mut PlaceList<'_, T>, taken: bool, new: Placed<T>) -> Result<(), Refusal>
     ensures { Added taken new list.old list.new result }
 {
     if taken {
-        return Err(Refusal::Taken);
+        return Err(Refusal::Conflict);
     }
-    // `From` would stand in one of the two crates of the refusals, and neither knows the other.
     list.insert(new).map_err(|_| Refusal::Full)
-}
-
-// Takes the target with the number out, if there is one.
-pub(crate) fn take_target(targets: &mut PlaceList<'_, Target>, number: u16) -> Result<(), Refusal>
-    ensures { TargetTakenOut number targets.old targets.new result }
-{
-    let at = targets.find_key(u64::from(number)).ok_or(Refusal::Taken)?;
-    targets.take_out(at).unwrap();
-    Ok(())
 }

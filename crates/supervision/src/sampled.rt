@@ -1,6 +1,6 @@
 use calls::{Phase, Zone};
 
-// What an accepted sample answers.
+// What an accepted sample answers: the phase after it, and its zone.
 #[derive(Clone, Copy, Debug, PartialEq, Eq, Hash)]
 pub struct Sampled {
     pub phase: Phase,

@@ -1,6 +1,7 @@
 -- Exact values: fractions, compared and held equal by their cross products.
 use Rattle.std.specs.Prelude.{◌≡◌, ℕ, ◌+◌, ◌-◌, ◌*◌, max, ◌<◌, ◌≤◌, ℤ}
-use Rattle.std.proofs.Common.{mul-pos, arith, lit<}
+use Rattle.std.proofs.Common.{mul-pos, lit<}
+use Rattle.std.proofs.Math.Nat.{le-max_left}
 
 infixl 65 ◌⊕◌ ◌⊖◌
 infixl 70 ◌⊗◌ ◌⊘◌
@@ -13,7 +14,7 @@ pub record Fraction : Type 0 where
 
 -- n / m. It is asked only of an m above 0; at 0 it stands for n / 1.
 abbrev pub ratio : ℕ → ℕ → Fraction
-ratio n m = record { over = n; under = max 1 m; above = omega arith }
+ratio n m = record { over = n; under = max 1 m; above = le-max_left 1 m }
 
 abbrev pub whole : ℕ → Fraction
 whole n = record { over = n; under = 1; above = lit< tt }

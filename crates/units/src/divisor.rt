@@ -1,6 +1,6 @@
 ghost use Rattle.std.specs.Prelude.{◌<◌};
 
-// A whole number above 0, fit to divide by. Whoever divides makes one of a number that is above 0, with no `Option` to take out, as a `NonZeroU64` would have.
+// A whole number above 0, fit to divide by. Unlike a `NonZeroU64` it is written as it is, with no test when it runs.
 #[derive(Clone, Copy, Debug, PartialEq, Eq)]
 pub struct Divisor {
     pub value: u64,

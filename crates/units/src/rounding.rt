@@ -3,8 +3,6 @@ ghost use Rattle.units.specs.Rounding.{ceiling, floor, RoundedUp, RoundedDown, F
 
 use crate::divisor::Divisor;
 
-// Each quotient takes its two numbers as they are at hand: a struct of both would be built for one call.
-
 // over / under, rounded up to a whole number.
 pub fn quotient_up(over: u64, under: Divisor) -> u64
     ensures value { result ≡ ceiling over under.value }
@@ -21,11 +19,11 @@ pub fn quotient_down(over: u64, under: Divisor) -> u64
     over / under.value
 }
 
-// over / under, rounded down to a whole number below zero too.
+// over / under, rounded down to a whole number below zero too: -1 over 2 gives -1, where Rust's `/` gives 0.
 pub fn quotient_floor(over: i64, under: Divisor) -> i64
     ensures value { result ≡ floor over under.value }
     ensures meaning { Floored over under.value result }
 {
-    // in 128 bits, since a divisor may be above every i64; the cast back is proved to lose nothing
+    // in 128 bits, since a divisor may be above every i64; the quotient is never further from 0 than `over`
     i128::from(over).div_euclid(i128::from(under.value)) as i64
 }

@@ -53,8 +53,7 @@ impl<'a, T: Copy> PlaceList<'a, T> {
     }
 }
 
-// Puts an item in at the index `at`, over the last one.
-// The index is an argument: what an insert is held to is an insert at an index.
+// Puts an item in at the index `at`: those from there on move one further, the last of them out of the slice.
 fn put_in<T: Copy>(items: &mut [T], at: usize, new: T)
     requires { at < length items.old }
     ensures { items.new ≡ insert (take (length items.old - 1) items.old) at new }

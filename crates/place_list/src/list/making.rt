@@ -5,18 +5,18 @@ use crate::list::PlaceList;
 use crate::placed::Placed;
 
 impl<'a, T: Copy> PlaceList<'a, T> {
-    // An empty list over the caller's memory, for as many items as it holds, and no more than `most`.
-    pub fn new(memory: &'a mut [Placed<T>], most: usize) -> PlaceList<'a, T>
+    // An empty list over the caller's memory, for as many items as it holds, and no more than `max_len`.
+    pub fn new(memory: &'a mut [Placed<T>], max_len: usize) -> PlaceList<'a, T>
         ensures empty { sequence result ≡ [] }
-        ensures room { room result ≡ min most (length memory.old) }
-        ensures most { result.most ≡ most }
+        ensures room { room result ≡ min max_len (length memory.old) }
+        ensures max_len { result.max_len ≡ max_len }
         ensures memory { memory_of result ≡ memory.old }
         ensures lent { loan_of result ≡ memory.entry.ghost_name }
     {
         PlaceList {
             memory,
             len: 0,
-            most,
+            max_len,
         }
     }
 
@@ -28,7 +28,7 @@ impl<'a, T: Copy> PlaceList<'a, T> {
         let PlaceList {
             memory,
             len: _,
-            most: _,
+            max_len: _,
         } = self;
         memory
     }

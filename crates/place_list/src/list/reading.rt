@@ -33,6 +33,6 @@ impl<'a, T: Copy> PlaceList<'a, T> {
     pub(super) fn capacity(&self) -> usize
         ensures { result ≡ capacity self.now }
     {
-        self.most.min(self.memory.len())
+        self.max_len.min(self.memory.len())
     }
 }

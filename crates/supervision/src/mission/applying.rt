@@ -14,7 +14,7 @@ impl<M: BrakingModel> Mission<M> {
         ensures made { Made M.BrakingModel.meaning call result.answer self.old self.new lists.old lists.new }
         ensures law { Law M.BrakingModel.meaning call result.answer self.old self.new lists.old lists.new }
     {
-        let answer = self.ask(lists, call);
+        let answer = self.make(lists, call);
         Record {
             call,
             answer,
@@ -22,8 +22,8 @@ impl<M: BrakingModel> Mission<M> {
         }
     }
 
-    // The call that is asked for. Only a sample answers a zone. A match, since each call has values of its own.
-    fn ask(&mut self, lists: &mut Lists<'_>, call: Call) -> Answer
+    // Makes the call and gives its answer, with a zone where it is a sample.
+    fn make(&mut self, lists: &mut Lists<'_>, call: Call) -> Answer
         ensures { Made M.BrakingModel.meaning call result self.old self.new lists.old lists.new }
     {
         match call {

@@ -1,5 +1,6 @@
 ghost use Rattle.std.specs.Prelude.{◌≡◌};
-ghost use Rattle.history.specs.Step.{is_clear, next};
+ghost use Rattle.history.specs.Step.{next_phase};
+ghost use Rattle.history.specs.Zones.{is_clear};
 ghost use Rattle.supervision.specs.Missions.{SameTrain};
 
 use crate::mission::Mission;
@@ -7,9 +8,9 @@ use braking::BrakingModel;
 use calls::{Phase, Zone};
 
 impl<M: BrakingModel> Mission<M> {
-    // The new phase follows from the phase before and the zone together: one match, as the rule is one table.
+    // The new phase follows from the phase before and the zone together.
     pub(super) fn enter(&mut self, zone: Zone)
-        ensures phase { self.new.phase ≡ next self.old.phase zone }
+        ensures phase { self.new.phase ≡ next_phase self.old.phase zone }
         ensures clear { self.new.clear ≡ is_clear zone }
         ensures train { SameTrain self.old self.new }
     {

@@ -1,51 +1,33 @@
 ghost use Rattle.std.specs.Prelude.{◌≡◌, false, []};
 ghost use Rattle.calls.specs.declared.phase.Phase.TheVariants.{Free};
-ghost use Rattle.history.specs.Runs.{Led};
-ghost use Rattle.supervision.specs.declared.lists.Lists.{Lists};
-ghost use Rattle.supervision.specs.Lists.{sections_of, targets_of};
-ghost use Rattle.supervision.specs.Missions.{eps_of, state_of};
+ghost use Rattle.history.specs.Agrees.{Agrees};
+ghost use Rattle.supervision.specs.Lists.{LentBy, opened_track, track_of};
+ghost use Rattle.supervision.specs.Missions.{sheet_of, state_of};
 
+use crate::lists::Lists;
+use crate::memory::Memory;
 use crate::mission::Mission;
 use braking::BrakingModel;
 use calls::Phase;
-use sheet::{Admitted, Draft};
+use sheet::Admitted;
 
 impl<M: BrakingModel> Mission<M> {
-    // The mission that an admitted sheet is opened as, with the model that it names or any other. With empty lists its history is the empty one.
-    pub fn over(sheet: Admitted, model: M) -> Mission<M>
-        ensures model { result.model ≡ model }
-        ensures sheet { result.sheet ≡ sheet }
-        ensures phase { result.phase ≡ Free }
-        ensures clear { result.clear ≡ false }
-        ensures law { (lists : Lists) → sections_of lists.sections ≡ [] → targets_of lists.targets ≡ [] → Led (eps_of result) (M.BrakingModel.meaning result.model) [] (state_of result lists) }
+    // The mission that an admitted sheet is opened as, with the model that it names or any other, and its lists, empty, over the lent memory. The empty history agrees with it.
+    pub fn open<'a>(sheet: Admitted, model: M, memory: Memory<'a>) -> (Mission<M>, Lists<'a>)
+        ensures model { result.0.model ≡ model }
+        ensures sheet { result.0.sheet ≡ sheet }
+        ensures phase { result.0.phase ≡ Free }
+        ensures clear { result.0.clear ≡ false }
+        ensures empty { track_of result.1 ≡ opened_track memory.entry }
+        ensures lent { LentBy memory.entry result.1 }
+        ensures law { Agrees (sheet_of result.0) (M.BrakingModel.meaning result.0.model) [] (state_of result.0 result.1) }
     {
-        Mission {
+        let mission = Mission {
             model,
             sheet,
             phase: Phase::Free,
             clear: false,
-        }
-    }
-
-    // The phase that the mission is in.
-    pub fn phase(&self) -> Phase
-        ensures { result ≡ self.now.phase }
-    {
-        self.phase
-    }
-}
-
-impl<M: BrakingModel + Drop> Mission<M> {
-    // The mission's draft back.
-    pub fn close(self) -> Draft
-        ensures { result.values ≡ self.sheet.values }
-    {
-        let Mission {
-            model: _,
-            sheet,
-            phase: _,
-            clear: _,
-        } = self;
-        sheet.into_draft()
+        };
+        (mission, Lists::new(memory))
     }
 }

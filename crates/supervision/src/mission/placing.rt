@@ -1,21 +1,21 @@
 ghost use Rattle.std.specs.Prelude.{◌≡◌, false, IfOk};
 ghost use Rattle.calls.specs.declared.call.Call.TheVariants.{Announce, Slope, Withdraw};
-ghost use Rattle.supervision.specs.Limits.{Announced};
-ghost use Rattle.supervision.specs.Missions.{Law, Made, SameTrain, answer_of, eps_of};
+ghost use Rattle.supervision.specs.Limits.{AnnouncedPlace};
+ghost use Rattle.supervision.specs.Missions.{Law, Made, SameTrain, answer_of, sheet_of};
 
-use crate::limits::ask_slope;
-use crate::lists::{Lists, add_section, add_target, take_target};
+use crate::announced::target_place;
+use crate::limits::check_slope;
+use crate::lists::Lists;
 use crate::mission::Mission;
+use crate::target::Target;
 use braking::BrakingModel;
 use calls::{Phase, Refusal};
 use place_list::Placed;
 use units::{Distance, Grade, Speed};
-use zones::{Target, target_place};
 
-// The clause `phase`: `Made` speaks of the answer without its phase, which a record holds beside it: a name for this one clause would be longer than the clause.
-// The parameters are the call's own fields by name, each asked by itself.
 impl<M: BrakingModel> Mission<M> {
     // Adds a section of this grade, which reaches from its place up to, not at, the next one's.
+    // Refused where the place is beyond the furthest (7), the grade out of limits (9), where a section begins at the place (10), or no more fit (11).
     pub fn slope(
         &mut self,
         lists: &mut Lists<'_>,
@@ -27,12 +27,13 @@ impl<M: BrakingModel> Mission<M> {
         ensures targets { lists.new.targets ≡ lists.old.targets }
         ensures law { Law M.BrakingModel.meaning (Slope place grade) (answer_of result) self.old self.new lists.old lists.new }
     {
-        ask_slope(place, grade)?;
-        add_section(&mut lists.sections, Placed { place, item: grade })?;
+        check_slope(place, grade)?;
+        lists.add_section(Placed { place, item: grade })?;
         Ok(self.accept())
     }
 
     // Adds a target by its number. It stands behind the point by the distance, less the sheet's share of that distance.
+    // Refused where the point, the distance or their sum is beyond the furthest place (7), the speed above the model's top speed (8), the number taken (10), or no more fit (11).
     pub fn announce(
         &mut self,
         lists: &mut Lists<'_>,
@@ -48,18 +49,18 @@ impl<M: BrakingModel> Mission<M> {
     {
         let place = self.announced_place(point, distance, speed)?;
         let item = Target { number, speed };
-        add_target(&mut lists.targets, Placed { place, item })?;
+        lists.add_target(Placed { place, item })?;
         Ok(self.accept())
     }
 
-    // Takes the target with the number out.
+    // Takes the target with the number out. Refused where none has it (10).
     pub fn withdraw(&mut self, lists: &mut Lists<'_>, number: u16) -> Result<Phase, Refusal>
         ensures made { Made M.BrakingModel.meaning (Withdraw number) (answer_of result) self.old self.new lists.old lists.new }
         ensures phase { IfOk result (λ p. p ≡ self.new.phase) }
         ensures sections { lists.new.sections ≡ lists.old.sections }
         ensures law { Law M.BrakingModel.meaning (Withdraw number) (answer_of result) self.old self.new lists.old lists.new }
     {
-        take_target(&mut lists.targets, number)?;
+        lists.take_target(number)?;
         Ok(self.accept())
     }
 
@@ -74,17 +75,18 @@ impl<M: BrakingModel> Mission<M> {
         self.phase
     }
 
-    // Where an announced target stands, if it is within limits.
+    // Where an announced target stands, if it is within limits: places are asked before the speed.
     fn announced_place(
         &self,
         point: Distance,
         distance: Distance,
         speed: Speed,
     ) -> Result<Distance, Refusal>
-        ensures { Announced (eps_of self.now) (M.BrakingModel.meaning self.now.model).top point.millimetres distance.millimetres speed.tenths result }
+        ensures { AnnouncedPlace (sheet_of self.now) (M.BrakingModel.meaning self.now.model) point.millimetres distance.millimetres speed.tenths result }
     {
-        let eps = self.sheet.values().eps;
-        let place = target_place(point, distance, eps).ok_or(Refusal::PlaceOutOfLimits)?;
+        let place = target_place(point, distance, &self.sheet.values()).ok_or(
+            Refusal::PlaceOutOfLimits,
+        )?;
         if speed > self.model.top_speed().speed {
             return Err(Refusal::TooFast);
         }

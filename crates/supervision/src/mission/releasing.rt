@@ -1,6 +1,6 @@
 ghost use Rattle.std.specs.Prelude.{◌≡◌, IfOk};
 ghost use Rattle.calls.specs.declared.call.Call.TheVariants.{Release};
-ghost use Rattle.history.specs.Step.{releasable};
+ghost use Rattle.history.specs.Step.{is_releasable};
 ghost use Rattle.supervision.specs.Missions.{Law, Made, answer_of};
 
 use crate::lists::Lists;
@@ -9,9 +9,8 @@ use braking::BrakingModel;
 use calls::{Phase, Refusal};
 
 impl<M: BrakingModel> Mission<M> {
-    // Lets the emergency brake go, where the last accepted call was a sample in zone 0.
-    // `release` takes the lists for its contract alone, which says of the whole state what a release makes of it.
-    // The clause `phase`: `Made` speaks of the answer without its phase, which a record holds beside it: a name for this one clause would be longer than the clause.
+    // Lets the emergency brake go, where the last accepted call was a sample in zone 0; refused elsewhere (12).
+    // The lists are for its contract alone, which says of the whole state what a release makes of it.
     pub fn release(&mut self, lists: &Lists<'_>) -> Result<Phase, Refusal>
         ensures made { Made M.BrakingModel.meaning Release (answer_of result) self.old self.new lists.now lists.now }
         ensures phase { IfOk result (λ p. p ≡ self.new.phase) }
@@ -26,7 +25,7 @@ impl<M: BrakingModel> Mission<M> {
 
     // The phase is emergency, and the last accepted call was a sample in zone 0.
     fn releasable(&self) -> bool
-        ensures { result ≡ releasable self.now.phase self.now.clear }
+        ensures { result ≡ is_releasable self.now.phase self.now.clear }
     {
         self.phase == Phase::Emergency && self.clear
     }

@@ -2,19 +2,18 @@ ghost use Rattle.std.specs.Prelude.{◌≡◌, IfOk};
 ghost use Rattle.calls.specs.declared.call.Call.TheVariants.{Sample};
 ghost use Rattle.supervision.specs.Missions.{Law, Made, sample_answer_of};
 
-use crate::limits::ask_sample;
+use crate::limits::check_sample;
 use crate::lists::Lists;
 use crate::mission::Mission;
 use crate::sampled::Sampled;
+use crate::zones::sample_zone;
 use braking::BrakingModel;
 use calls::Refusal;
 use units::{Distance, Speed};
-use zones::sample_zone;
 
 impl<M: BrakingModel> Mission<M> {
     // The train's front is at the place and runs this fast: works out the zone and the phase.
-    // The clause `phase`: `Made` speaks of the answer without its phase, which a record holds beside it: a name for this one clause would be longer than the clause.
-    // The parameters are the call's own fields by name, each asked by itself.
+    // Refused where the place is beyond the furthest (7), or the speed above 4,000 tenths of km/h (8); one above the model's top speed is a sample like any other.
     pub fn sample(
         &mut self,
         lists: &Lists<'_>,
@@ -25,14 +24,8 @@ impl<M: BrakingModel> Mission<M> {
         ensures phase { IfOk result (λ s. s.phase ≡ self.new.phase) }
         ensures law { Law M.BrakingModel.meaning (Sample place speed) (sample_answer_of result) self.old self.new lists.now lists.now }
     {
-        ask_sample(place, speed)?;
-        let zone = sample_zone(
-            &self.model,
-            lists.sections.items(),
-            lists.targets.items(),
-            place,
-            speed,
-        );
+        check_sample(place, speed)?;
+        let zone = sample_zone(&self.model, lists, place, speed);
         self.enter(zone);
         Ok(Sampled {
             phase: self.phase,

@@ -2,10 +2,10 @@ use Rattle.std.proofs.Common.{◌≡◌, ℕ, List, [], ◌∷◌, ◌++◌, Som
 use Rattle.std.specs.Option.{MatchOption}
 use Rattle.std.proofs.lemmas.Bool.Decides.{Decides-eqb}
 use Rattle.std.proofs.lemmas.Slice.Eq.{strip_prefix_is}
-use Rattle.fields.specs.Keys.{Keyed}
+use Rattle.fields.specs.Keys.{HasKey}
 use Rattle.fields.proofs.keys.value_behind.Goals as goal
 
-keyed : (key line rest : List ℕ) (r : Option (Bor (List ℕ))) (P : Type 0) → line ≡ key ++ rest → MatchOption r P (λ v. rest ≡ 61 ∷ v.now) → IfSome r (λ v. Keyed key line v.now)
+keyed : (key line rest : List ℕ) (r : Option (Bor (List ℕ))) (P : Type 0) → line ≡ key ++ rest → MatchOption r P (λ v. rest ≡ 61 ∷ v.now) → IfSome r (λ v. HasKey key line v.now)
 keyed key line rest (Some v) P e m = e ∙ ap (λ (t : List ℕ). key ++ t) m
 keyed key line rest None P e m = tt
 

@@ -1,6 +1,6 @@
 use Rattle.std.proofs.Common.{◌≡◌, rules, ◌<◌, length, ◌∙◌, arith}
 use Rattle.std.specs.Iterator.Runs.{YieldsRun}
-use Rattle.session.specs.SheetLines.{behind_feeds}
+use Rattle.session.specs.SheetLines.{end_of_lines}
 use Rattle.session.proofs.Feeds.{within, drained}
 use borrow.Author.Tests.{tests}
 use Rattle.session.proofs.sheet_lines.sheet_end.Goals as goal
@@ -18,7 +18,7 @@ returns-clause-value c =
     let ran = c.sum.ensures.ran in
     let end = ran.1 tt in
     let all = drained _ _ (λ f a b q k. search (rules, tests)) (λ f a n q k. search rules) c.map.result end.1.0 end.0 ran.0 end.1.1 end.1.2 in
-    let same : behind_feeds c.map.result.iter.n c.map.result.iter.iter.rest.now ≡ behind_feeds 12 c.args.text.now = search rules in
+    let same : end_of_lines c.map.result.iter.n c.map.result.iter.iter.rest.now ≡ end_of_lines 12 c.args.text.now = search rules in
     ran.2 ∙ (all ∙ same)
 
 pub returns-clause-within : goal.returns-clause-within

@@ -2,7 +2,7 @@ use Rattle.std.proofs.Common.{◌≡◌, ℕ, ◌+◌, ◌-◌, ◌<◌, ◌≤�
 use Rattle.std.specs.Option.{MatchOption}
 use Rattle.std.proofs.lemmas.List.{drop_all, drop_more, get_or-drop, length-drop}
 use Rattle.fields.proofs.Firsts.{first, nowhere}
-use Rattle.call_text.specs.CallTexts.{Parted, space}
+use Rattle.call_text.specs.CallTexts.{IsParted, space}
 use Rattle.call_text.specs.LineFields.{EndsBehind}
 use Rattle.call_text.proofs.line_parts.Fields.end.Goals as goal
 
@@ -19,7 +19,7 @@ at_space line at m n is e =
       behind = λ h. omega arith;
       within = omega arith;
       none_before = λ k low high sign. f.none_before (k - m) (omega arith) (from_there line m k (omega arith) ∙ sign);
-      parted = subst Parted (sym (drop_more line (m + n) 0 inside)) (sym (get_or-drop m line n 0) ∙ f.here);
+      parted = subst IsParted (sym (drop_more line (m + n) 0 inside)) (sym (get_or-drop m line n 0) ∙ f.here);
     }
 
 at_end : (line : List ℕ) (at m : ℕ) → m ≡ min (length line) (at + 1) → None ≡ position (λ b. b == space) (drop m line) → EndsBehind line at (length line)
@@ -29,7 +29,7 @@ at_end line at m is e =
       behind = λ h. h;
       within = omega arith;
       none_before = λ k low high sign. nowhere space (drop m line) e (k - m) (omega arith) (from_there line m k (omega arith) ∙ sign);
-      parted = subst Parted (sym (drop_all (length line) line (omega arith))) tt;
+      parted = subst IsParted (sym (drop_all (length line) line (omega arith))) tt;
     }
 
 at_either : (line : List ℕ) (at m r : ℕ) (o : Option ℕ) → m ≡ min (length line) (at + 1) → o ≡ position (λ b. b == space) (drop m line) → MatchOption o (r ≡ length line) (λ n. r ≡ m + n) → EndsBehind line at r

@@ -2,7 +2,7 @@ use Rattle.std.proofs.Common.{◌≡◌, ℕ, ◌+◌, ◌-◌, ◌<◌, min, Li
 use Rattle.std.specs.Option.{ok_or}
 use Rattle.std.proofs.lemmas.List.{take-append-drop, drop_more, length-take-le, take_min, take_rest}
 use Rattle.std.proofs.lemmas.Result.{err_from_is_err_and}
-use Rattle.fields.specs.Lines.{Begins, NoFeed, feed}
+use Rattle.fields.specs.Lines.{Begins, HasNoFeed, feed}
 use Rattle.fields.specs.declared.faults.TextFault.{TextFault}
 use Rattle.fields.proofs.Firsts.{first, nowhere}
 use Rattle.fields.proofs.cursor.Cursor.cut.Goals as goal
@@ -24,7 +24,7 @@ found window bytes n e =
     }
 
 -- where the window has no first feed, it has none
-missing : (window : ℕ) (bytes : List ℕ) → None ≡ position (λ b. b == feed) (take window bytes) → NoFeed window bytes
+missing : (window : ℕ) (bytes : List ℕ) → None ≡ position (λ b. b == feed) (take window bytes) → HasNoFeed window bytes
 missing window bytes e k w l f =
     let size = length-take window bytes in
     nowhere feed (take window bytes) e k (omega arith) (get_or-take window bytes k 0 (omega arith) ∙ f)

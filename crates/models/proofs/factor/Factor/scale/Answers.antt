@@ -10,5 +10,5 @@ at_most_twice x n m r above twice is =
 pub returns : goal.returns
 returns c =
     let self = c.args.self in
-    let value = c.quotient_down.ensures.value in
-    record { value = value; bounded = at_most_twice c.args.units self.over self.under c.quotient_down.result self.above self.at_most_two value }
+    let value = c.quotient_down-units.ensures.value in
+    record { value = value; bounded = at_most_twice c.args.deceleration.units self.over self.under c.quotient_down-units.result self.above self.at_most_two value }

@@ -11,7 +11,7 @@ invariant_of-self g c =
     let n = c.args.self.now.len in
     let some : c.args.at < n = c.requires in
     let within : n ≤ length old = c.args.self.now.within in
-    let allowed : n ≤ c.args.self.now.most = c.args.self.now.allowed in
+    let allowed : n ≤ c.args.self.now.max_len = c.args.self.now.allowed in
     let same : length c.copy_within.new.self ≡ length old = c.copy_within.ensures.len in
     let left = left_over n c.args.at old c.copy_within.new.self some within c.copy_within.ensures.after in
     record {
@@ -28,7 +28,7 @@ returns g c =
     let x = get_or old at c.index-self-at.result in
     let some : at < n = c.requires in
     let within : n ≤ length old = c.args.self.now.within in
-    let allowed : n ≤ c.args.self.now.most = c.args.self.now.allowed in
+    let allowed : n ≤ c.args.self.now.max_len = c.args.self.now.allowed in
     let same : length c.copy_within.new.self ≡ length old = c.copy_within.ensures.len in
     let whole : length (take n old) ≡ n = length-take-le n old within in
     let inside : at < length (take n old) = omega arith in
@@ -43,5 +43,5 @@ returns g c =
       members = taken_one at x _ _ from;
       turns = taken_turns place_of at x _ _ from;
       room_more = omega arith;
-      kept = record { most_same = refl; length_same = same; loan_same = refl; rest_same = behind_left n at old c.copy_within.new.self some within c.copy_within.ensures.after };
+      kept = record { max_len_same = refl; length_same = same; loan_same = refl; rest_same = behind_left n at old c.copy_within.new.self some within c.copy_within.ensures.after };
     }

@@ -13,7 +13,7 @@ written : (g : _) (c : After-put_in g) → c.put_in.new.items ++ drop (c.args.se
 written g c =
     let old = c.args.self.now.memory.now in
     let n = c.args.self.now.len in
-    let fits : n < min c.args.self.now.most (length old) = c.requires.fits in
+    let fits : n < min c.args.self.now.max_len (length old) = c.requires.fits in
     let part : length (take (n + 1) old) ≡ n + 1 = length-take-le (n + 1) old (omega arith) in
     let count : length (take (n + 1) old) - 1 ≡ n = omega arith in
     ap (λ xs. xs ++ drop (n + 1) old) (c.put_in.ensures
@@ -23,7 +23,7 @@ stands : (g : _) (c : After-put_in g) → PutIn place_of c.args.new (take c.args
 stands g c =
     let old = c.args.self.now.memory.now in
     let n = c.args.self.now.len in
-    let fits : n < min c.args.self.now.most (length old) = c.requires.fits in
+    let fits : n < min c.args.self.now.max_len (length old) = c.requires.fits in
     let whole : length (take n old) ≡ n = length-take-le n old c.args.self.now.within in
     let upto : c.args.at ≤ length (take n old) = c.requires.upto in
     put_in place_of c.args.new c.args.at (take n old) _ c.requires.upto c.requires.before c.requires.behind c.args.self.now.ascending
@@ -33,7 +33,7 @@ pub invariant_of-self : goal.invariant_of-self
 invariant_of-self g c =
     let old = c.args.self.now.memory.now in
     let n = c.args.self.now.len in
-    let fits : n < min c.args.self.now.most (length old) = c.requires.fits in
+    let fits : n < min c.args.self.now.max_len (length old) = c.requires.fits in
     let whole : length (take n old) ≡ n = length-take-le n old c.args.self.now.within in
     let upto : c.args.at ≤ length (take n old) = c.requires.upto in
     let same : length (c.put_in.new.items ++ drop (n + 1) old) ≡ length old = whole_put c.args.new n c.args.at old (c.put_in.new.items ++ drop (n + 1) old) (omega arith) (omega arith) (written g (at-invariant_of-self g c).After-put_in) in
@@ -49,7 +49,7 @@ returns g c =
     let n = c.args.self.now.len in
     let at = c.args.at in
     let x = c.args.new in
-    let fits : n < min c.args.self.now.most (length old) = c.requires.fits in
+    let fits : n < min c.args.self.now.max_len (length old) = c.requires.fits in
     let whole : length (take n old) ≡ n = length-take-le n old c.args.self.now.within in
     let upto : at ≤ length (take n old) = c.requires.upto in
     let same : length (c.put_in.new.items ++ drop (n + 1) old) ≡ length old = whole_put x n at old (c.put_in.new.items ++ drop (n + 1) old) (omega arith) (omega arith) (written g (at-returns g c).After-put_in) in
@@ -61,7 +61,7 @@ returns g c =
       turns = comes_last place_of x _ _ put;
       room_less = omega arith;
       kept = record {
-        most_same = refl;
+        max_len_same = refl;
         length_same = same;
         loan_same = refl;
         rest_same = rest_put x n at old (c.put_in.new.items ++ drop (n + 1) old) (omega arith) (omega arith) (written g (at-returns g c).After-put_in);

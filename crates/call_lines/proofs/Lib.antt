@@ -1,3 +1,0 @@
-mod OneText
-mod Acceptance
-mod OneAnswer

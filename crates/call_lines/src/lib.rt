@@ -1,5 +1,0 @@
-#![tactic(auto)]
-
-mod reading;
-
-pub use reading::read_call;

@@ -1,5 +1,0 @@
-use Rattle.histories.proofs.Examples.{ruled_out, tenfold_lawful, worked}
-use Rattle.histories.proofs.worked_histories.Goals as goal
-
-pub returns : goal.returns
-returns c = record { lawful = tenfold_lawful; worked = worked; ruled_out = ruled_out }

@@ -1,0 +1,108 @@
+-- A run worked out in numbers, and histories that the three lines rule out.
+use Rattle.std.specs.Prelude.{◌≡◌, ◌*◌, cond, List, [], ◌∷◌, ◌++◌, map, pos, int_lt, None, Ok}
+use Rattle.std.proofs.Common.{lit<, lit≤, mul-le-mul_right}
+use Rattle.units.specs.Fractions.{whole}
+use Rattle.braking.specs.Meaning.{Meaning, weak, strong}
+use Rattle.sheet.specs.declared.values.Values.{Values}
+use Rattle.sheet.specs.declared.words.LengthChoice.TheVariants.{Fixed}
+use Rattle.sheet.specs.declared.words.Model.TheVariants.{Scmt}
+use Rattle.sheet.specs.declared.words.Regime.TheVariants.{Operation}
+use Rattle.sheet.specs.declared.words.Service.TheVariants.{Passenger}
+use Rattle.calls.specs.Answers.{answer_number}
+use Rattle.calls.specs.declared.call.Call.{Call}
+use Rattle.calls.specs.declared.phase.Phase.{Phase}
+use Rattle.calls.specs.declared.phase.Phase.TheVariants.{Free, Warning, Emergency}
+use Rattle.calls.specs.declared.record.Record.{Record}
+use Rattle.history.specs.History.{History, slope, announce, withdraw, sample, release}
+use Rattle.history.specs.Lines.{KeepsTheLines}
+use Rattle.history.specs.Runs.{run}
+use Rattle.history.specs.State.{empty_track, full_capacity, start}
+
+-- A brake that stops in ten times the speed on the level or uphill, and is too weak on any fall.
+abbrev pub tenfold : Meaning
+tenfold = record {
+  top = 50;
+  deceleration = λ q. record { over = cond (int_lt q.grade (pos 0)) (pos 0) (pos 1000000); under = 1; above = lit< tt };
+  verdict = λ q. cond (int_lt q.grade (pos 0)) weak
+      (strong (record {
+        control = whole (10 * q.speed);
+        warning = whole (12 * q.speed);
+        nominal = whole (15 * q.speed);
+        control_first = mul-le-mul_right 1 (mul-le-mul_right q.speed (lit≤ tt));
+        nominal_last = mul-le-mul_right 1 (mul-le-mul_right q.speed (lit≤ tt));
+      })
+      (record {
+        control = 10 * q.speed;
+        warning = 12 * q.speed;
+        nominal = 15 * q.speed;
+        control_first = mul-le-mul_right q.speed (lit≤ tt);
+        nominal_last = mul-le-mul_right q.speed (lit≤ tt);
+      }));
+}
+
+-- A sheet by which 10 percent of an announced distance are cut off; the rest of it does not matter here.
+abbrev pub sheet : Values
+sheet = record {
+  model = Scmt;
+  regime = Operation;
+  train = Passenger;
+  brake = Passenger;
+  ep = 0;
+  lambda = 100;
+  length = 400;
+  lfren = Fixed;
+  kr = 100;
+  tw = 20;
+  ti = 30;
+  eps = 10;
+}
+
+-- Two calls to set up, samples up to control, a release too soon, a sample in zone 0, a refused one behind it, a release, too fast,
+-- the target withdrawn, a sample in zone 0, an accepted slope behind it, a release too late, and the sample and release again.
+abbrev pub calls : List Call
+calls = slope 0 (pos 4) ∷ announce 7 905 95 5 ∷ sample 0 20 ∷ sample 740 20 ∷ sample 751 20
+    ∷ sample 789 20 ∷ sample 790 20 ∷ release ∷ sample 791 5 ∷ sample 791 4001 ∷ release
+    ∷ sample 791 51 ∷ withdraw 7 ∷ sample 791 50 ∷ slope 5 (pos 0) ∷ release ∷ sample 791 50 ∷ release ∷ []
+
+-- The answers' numbers and the phases after the calls, over tenfold with 10 percent cut off: the target stands at 990.
+pub record Worked : Type 0 where
+  pub numbers : map (λ (e : Record). answer_number e.answer) (run sheet tenfold (start (empty_track full_capacity)) calls)
+      ≡ 0 ∷ 0 ∷ 0 ∷ 0 ∷ 0 ∷ 0 ∷ 0 ∷ 12 ∷ 0 ∷ 8 ∷ 0 ∷ 0 ∷ 0 ∷ 0 ∷ 0 ∷ 12 ∷ 0 ∷ 0 ∷ []
+  pub phases : map (λ (e : Record). e.phase) (run sheet tenfold (start (empty_track full_capacity)) calls)
+      ≡ Free ∷ Free ∷ Free ∷ Free ∷ Warning ∷ Warning ∷ Emergency ∷ Emergency ∷ Emergency ∷ Emergency ∷ Free
+      ∷ Emergency ∷ Emergency ∷ Emergency ∷ Emergency ∷ Emergency ∷ Emergency ∷ Free ∷ []
+
+-- An accepted call with the phase after it.
+abbrev pub accepted_entry : Call → Phase → Record
+accepted_entry c p = record { call = c; answer = Ok None; phase = p }
+
+-- A target of speed 5 that stands at 990, on a grade of 4.
+abbrev pub one_target : History
+one_target = accepted_entry (slope 0 (pos 4)) Free ∷ accepted_entry (announce 7 905 95 5) Free ∷ []
+
+-- Over tenfold with 10 percent cut off.
+abbrev pub BreaksTheLines : History → Type 0
+BreaksTheLines h = KeepsTheLines sheet tenfold h → ⊥
+
+-- Histories that the lines rule out.
+pub record RuledOut : Type 0 where
+  -- above the top speed, and the brake stays off
+  pub too_fast : BreaksTheLines (accepted_entry (sample 0 51) Free ∷ [])
+  -- at 790 with 20, 200 before the target, the brake stays off
+  pub too_near : BreaksTheLines (one_target ++ accepted_entry (sample 790 20) Warning ∷ [])
+  -- the brake comes on with no target
+  pub for_nothing : BreaksTheLines (accepted_entry (sample 0 50) Emergency ∷ [])
+  -- the brake comes on 291 before the target, where 200 and the margin of 90 are enough
+  pub too_early : BreaksTheLines (one_target ++ accepted_entry (sample 699 20) Emergency ∷ [])
+  -- a sample lets the brake go
+  pub unasked : BreaksTheLines (accepted_entry (sample 0 51) Emergency ∷ accepted_entry (sample 0 20) Free ∷ [])
+  -- the brake is let go after a sample that was too fast
+  pub too_soon : BreaksTheLines (accepted_entry (sample 0 51) Emergency ∷ accepted_entry release Free ∷ [])
+  -- the brake is let go after a sample 250 before the target, where the nominal distance is 300
+  pub not_yet : BreaksTheLines (one_target ++ accepted_entry (sample 790 20) Emergency ∷ accepted_entry (sample 740 20) Emergency ∷ accepted_entry release Free ∷ [])
+  -- far from a target, but with no section known: the steepest fall, where tenfold is weak
+  pub unknown_grade : BreaksTheLines (accepted_entry (announce 7 905 95 5) Free ∷ accepted_entry (sample 0 20) Free ∷ [])
+  -- the brake comes on for a target that was withdrawn
+  pub withdrawn : BreaksTheLines (one_target ++ accepted_entry (withdraw 7) Free ∷ accepted_entry (sample 790 20) Emergency ∷ [])
+  -- the brake comes on in a call that is no sample
+  pub no_sample : BreaksTheLines (accepted_entry (slope 0 (pos 4)) Emergency ∷ [])

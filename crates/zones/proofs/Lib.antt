@@ -1,2 +1,0 @@
-pub mod Grades
-pub mod Verdicts

@@ -1,4 +1,0 @@
-pub mod Announced
-pub mod Computed
-pub mod Items
-pub mod Judging
