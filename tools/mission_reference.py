@@ -15,7 +15,7 @@ from reference import A, KEYS, read_text, sheet, steps, top
 NEXT = b"next\n"
 END = b"\x01"
 MAX_BYTES = 65_536
-FURTHEST, FASTEST = 1_000_000_000, 4_000
+MAX_PLACE, MAX_SPEED = 1_000_000_000, 4_000
 SECTIONS, TARGETS = 64, 32
 FIELDS = {
     "slope": ["place", "grade"],
@@ -94,14 +94,14 @@ class Mission:
         return max([self.target_zone(front, speed, *t) for t in self.targets.values()], default=0)
 
     def slope(self, place, grade):
-        require(7, place <= FURTHEST)
+        require(7, place <= MAX_PLACE)
         require(9, -35 <= grade <= 35)
         require(10, place not in self.grades)
         require(11, len(self.grades) < SECTIONS)
         self.grades[place] = grade
 
     def announce(self, number, point, distance, speed):
-        require(7, max(point, distance, point + distance) <= FURTHEST)
+        require(7, max(point, distance, point + distance) <= MAX_PLACE)
         require(8, speed <= top(self.values))
         require(10, number not in self.targets)
         require(11, len(self.targets) < TARGETS)
@@ -113,8 +113,8 @@ class Mission:
         del self.targets[number]
 
     def sample(self, place, speed):
-        require(7, place <= FURTHEST)
-        require(8, speed <= FASTEST)
+        require(7, place <= MAX_PLACE)
+        require(8, speed <= MAX_SPEED)
         zone = self.zone(place, speed)
         if zone == 3:
             self.phase = "emergency"
@@ -236,14 +236,14 @@ def reading_faults():
 
 
 def refusals():
-    yield A, [slope(FURTHEST + 1, 0), slope(5, -36), slope(5, 36), slope(5, -35), slope(6, 35), slope(5, 0), slope(FURTHEST, 0), slope(FURTHEST, 0)]
+    yield A, [slope(MAX_PLACE + 1, 0), slope(5, -36), slope(5, 36), slope(5, -35), slope(6, 35), slope(5, 0), slope(MAX_PLACE, 0), slope(MAX_PLACE, 0)]
     yield A, [
-        announce(1, FURTHEST + 1, 0, 0), announce(1, 0, FURTHEST + 1, 0), announce(1, 1, FURTHEST, 0), announce(1, FURTHEST, 1, 0),
+        announce(1, MAX_PLACE + 1, 0, 0), announce(1, 0, MAX_PLACE + 1, 0), announce(1, 1, MAX_PLACE, 0), announce(1, MAX_PLACE, 1, 0),
         announce(1, 500_000_001, 500_000_000, 0), announce(1, 0, 0, 2_601), announce(1, 500_000_000, 500_000_000, 2_600), announce(1, 0, 0, 0),
-        announce(2, FURTHEST, 0, 0), announce(3, 0, FURTHEST, 0), announce(0, 0, 0, 2_600), announce(65_535, 7, 7, 1), announce(65_535, 8, 8, 1), announce(0, 8, 8, 1),
+        announce(2, MAX_PLACE, 0, 0), announce(3, 0, MAX_PLACE, 0), announce(0, 0, 0, 2_600), announce(65_535, 7, 7, 1), announce(65_535, 8, 8, 1), announce(0, 8, 8, 1),
     ]
     yield A, [withdraw(1), announce(1, 0, 9, 0), withdraw(2), withdraw(1), withdraw(1), withdraw(65_535)]
-    yield A, [sample(FURTHEST + 1, 0), sample(FURTHEST, 0), sample(0, 4_001), sample(0, 0), sample(0, 9_999_999_999), sample(9_999_999_999, 0)]
+    yield A, [sample(MAX_PLACE + 1, 0), sample(MAX_PLACE, 0), sample(0, 4_001), sample(0, 0), sample(0, 9_999_999_999), sample(9_999_999_999, 0)]
     # release: free, warning, emergency with the last sample in zones 3, 2, 1 and 0
     within = edges(A, 1_000_000, 1_000, 0, 0)
     yield A, [RELEASE, LEVEL, RELEASE, announce(1, 0, 1_000_000, 0), STANDING, RELEASE, within[3], RELEASE, within[5], RELEASE, within[4], RELEASE, within[2], RELEASE, within[0], RELEASE, RELEASE]
@@ -251,19 +251,19 @@ def refusals():
 
 def two_refusals():
     yield A, [
-        LEVEL, slope(FURTHEST + 1, 36), slope(0, 36), slope(0, -36), announce(1, 0, 10, 0), announce(1, FURTHEST + 1, 0, 2_601), announce(1, 0, 10, 2_601),
-        announce(1, FURTHEST, 1, 0), announce(2, 0, FURTHEST + 1, 2_601), sample(FURTHEST + 1, 4_001), sample(FURTHEST + 1, 2_601), sample(0, 4_001), RELEASE,
+        LEVEL, slope(MAX_PLACE + 1, 36), slope(0, 36), slope(0, -36), announce(1, 0, 10, 0), announce(1, MAX_PLACE + 1, 0, 2_601), announce(1, 0, 10, 2_601),
+        announce(1, MAX_PLACE, 1, 0), announce(2, 0, MAX_PLACE + 1, 2_601), sample(MAX_PLACE + 1, 4_001), sample(MAX_PLACE + 1, 2_601), sample(0, 4_001), RELEASE,
     ]
 
 
 def full_lists():
     many = [slope(1_000 * n, n % 36 - 35) for n in range(SECTIONS)]
-    yield A, [*many, slope(64_000, 0), slope(500, 0), slope(63_000, 0), slope(64_000, 36), slope(0, 36), slope(FURTHEST + 1, 0), announce(1, 0, 1_000_000, 0), sample(0, 800), sample(70_000, 800), slope(500, 0)]
+    yield A, [*many, slope(64_000, 0), slope(500, 0), slope(63_000, 0), slope(64_000, 36), slope(0, 36), slope(MAX_PLACE + 1, 0), announce(1, 0, 1_000_000, 0), sample(0, 800), sample(70_000, 800), slope(500, 0)]
     # the far end of a full list of sections, put in from the last to the first
     yield A, [*reversed(many), announce(1, 0, 2_000_000, 0), *edges(A, 2_000_000, 1_000, 0, -8)]
     targets = [announce(n, 0, 3_000_000 + n, n) for n in range(TARGETS)]
     yield A, [
-        LEVEL, *targets, announce(99, 0, 1, 0), announce(3, 0, 1, 0), announce(99, 0, 1, 2_601), announce(3, FURTHEST, 1, 0), withdraw(99), announce(99, 0, 1, 0),
+        LEVEL, *targets, announce(99, 0, 1, 0), announce(3, 0, 1, 0), announce(99, 0, 1, 2_601), announce(3, MAX_PLACE, 1, 0), withdraw(99), announce(99, 0, 1, 0),
         withdraw(31), announce(99, 0, 4_000_000, 0), announce(31, 0, 1, 0), withdraw(0), withdraw(0), announce(31, 0, 5_000_000, 9), announce(0, 0, 1, 0), withdraw(99), announce(0, 0, 6_000_000, 0),
         sample(0, 1_000), *edges(A, 3_000_001, 1_000, 1, 0),
     ]
@@ -287,7 +287,7 @@ def own_speed():
 
 
 def passed_targets():
-    yield A, [LEVEL, announce(1, 0, 100_000, 500), sample(99_999, 501), sample(100_000, 500), RELEASE, sample(100_000, 501), sample(100_001, 501), sample(900_000_000, 501), sample(FURTHEST, 501), sample(FURTHEST, 500), RELEASE]
+    yield A, [LEVEL, announce(1, 0, 100_000, 500), sample(99_999, 501), sample(100_000, 500), RELEASE, sample(100_000, 501), sample(100_001, 501), sample(900_000_000, 501), sample(MAX_PLACE, 501), sample(MAX_PLACE, 500), RELEASE]
     # at the front, and with no section
     yield A, [announce(1, 0, 0, 0), sample(0, 1), sample(1, 1), sample(0, 0), RELEASE]
 
@@ -315,15 +315,15 @@ def speeds():
     for words in ["scmt E V V 0 100 400 LD 100 20 30 0", "scmt P V V 0 100 400 LD 100 20 30 0", "etcs E V V 0 100 400 LD 100 20 30 0", "etcs P V V 0 100 400 LD 100 20 30 0"]:
         s = sheet(words)
         t = top(s)
-        last = [announce(1, 0, FURTHEST, t), announce(2, 0, FURTHEST, t + 1)]
-        yield s, [LEVEL, sample(5, t), sample(5, t + 1), RELEASE, sample(5, t), RELEASE, sample(5, 4_000), sample(5, 4_001), sample(5, t), RELEASE, *last, sample(FURTHEST, t), withdraw(1), announce(3, 0, 50_000_000, t - 1), *edges(s, 50_000_000, t, t - 1, 0)]
+        last = [announce(1, 0, MAX_PLACE, t), announce(2, 0, MAX_PLACE, t + 1)]
+        yield s, [LEVEL, sample(5, t), sample(5, t + 1), RELEASE, sample(5, t), RELEASE, sample(5, 4_000), sample(5, 4_001), sample(5, t), RELEASE, *last, sample(MAX_PLACE, t), withdraw(1), announce(3, 0, 50_000_000, t - 1), *edges(s, 50_000_000, t, t - 1, 0)]
         yield s, [LEVEL, announce(1, 0, 100_000_000, 0), *edges(s, 100_000_000, t, 0, 0), sample(0, t + 1), sample(0, t), RELEASE, announce(2, 0, 100_000_000, 1_450), *edges(s, 100_000_000, 1_500, 0, 0)]
 
 
 def releases():
     emergency = [LEVEL, announce(1, 0, 1_000_000, 0), sample(900_000, 1_000)]
     # a refused call between the sample in zone 0 and the release
-    for between in [slope(0, 0), slope(FURTHEST + 1, 0), announce(1, 0, 1, 0), withdraw(2), sample(FURTHEST + 1, 0), sample(0, 4_001), "call=brake", "call=slope place=x", "call=withdraw number=65536", "call=release x", ""]:
+    for between in [slope(0, 0), slope(MAX_PLACE + 1, 0), announce(1, 0, 1, 0), withdraw(2), sample(MAX_PLACE + 1, 0), sample(0, 4_001), "call=brake", "call=slope place=x", "call=withdraw number=65536", "call=release x", ""]:
         yield A, [*emergency, STANDING, between, RELEASE, between]
     # an accepted one
     for between in [slope(7, 1), announce(2, 0, 1, 2_600), withdraw(1), sample(900_000, 1_000), edges(A, 1_000_000, 1_000, 0, 0)[1], edges(A, 1_000_000, 1_000, 0, 0)[3]]:
@@ -359,10 +359,10 @@ def numbers_again():
 
 def weak_questions():
     s = sheet("scmt E V V 0 45 400 LD 30 20 30 0")
-    yield s, [slope(0, -35), announce(1, 0, FURTHEST, 0), sample(0, 1_000), RELEASE, sample(0, 0), RELEASE]
-    yield s, [LEVEL, announce(1, 0, FURTHEST, 0), sample(0, 1_000), slope(FURTHEST, -35), sample(0, 1_000), withdraw(1), announce(1, 0, FURTHEST - 1, 0), sample(0, 1_000), sample(0, 0), RELEASE]
+    yield s, [slope(0, -35), announce(1, 0, MAX_PLACE, 0), sample(0, 1_000), RELEASE, sample(0, 0), RELEASE]
+    yield s, [LEVEL, announce(1, 0, MAX_PLACE, 0), sample(0, 1_000), slope(MAX_PLACE, -35), sample(0, 1_000), withdraw(1), announce(1, 0, MAX_PLACE - 1, 0), sample(0, 1_000), sample(0, 0), RELEASE]
     # no section: the steepest fall
-    yield s, [announce(1, 0, FURTHEST, 999), sample(0, 999), sample(0, 1_000)]
+    yield s, [announce(1, 0, MAX_PLACE, 999), sample(0, 999), sample(0, 1_000)]
 
 
 def phases():

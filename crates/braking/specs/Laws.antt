@@ -1,6 +1,6 @@
 -- The laws that every braking model owes.
 use Rattle.std.specs.Prelude.{◌≡◌, ℕ, ◌*◌, ◌≤◌, pos, ◌≤ℤ◌, ◌<ℤ◌}
-use Rattle.units.specs.declared.limits.TheConstants.{FASTEST}
+use Rattle.units.specs.declared.limits.TheConstants.{MAX_SPEED}
 use Rattle.units.specs.Fractions.{Fraction, whole, ◌≼◌, ◌⊕◌, ◌⊗◌}
 use Rattle.braking.specs.Meaning.{Meaning, Question, Verdict, Asked, Binds, weak, strong}
 
@@ -23,7 +23,7 @@ Sound weak = Unit {0}
 Sound (strong e c) = Close e.control c.control × Close e.warning c.warning × Close e.nominal c.nominal
 
 pub record Lawful (m : Meaning) : Type 0 where
-  pub top_bounded : m.top ≤ FASTEST.tenths
-  pub weak_below : (q : Question) → Asked m.top q → Binds m q → (m.deceleration q).over <ℤ pos (500000 * (m.deceleration q).under) → m.verdict q ≡ weak
-  pub strong_above : (q : Question) → Asked m.top q → Binds m q → pos (500009 * (m.deceleration q).under) ≤ℤ (m.deceleration q).over → Strong (m.verdict q)
+  pub top_bounded : m.top ≤ MAX_SPEED.tenths
+  pub weak_below : (q : Question) → Asked m.top q → Binds m q → (m.deceleration q).numerator <ℤ pos (500000 * (m.deceleration q).denominator) → m.verdict q ≡ weak
+  pub strong_above : (q : Question) → Asked m.top q → Binds m q → pos (500009 * (m.deceleration q).denominator) ≤ℤ (m.deceleration q).numerator → Strong (m.verdict q)
   pub sound : (q : Question) → Asked m.top q → Binds m q → Sound (m.verdict q)

@@ -1,19 +1,19 @@
 ghost use Rattle.std.specs.Prelude.{◌≡◌, ◌<◌, ◌≤◌, ◌≤ℤ◌};
 ghost use Rattle.braking.specs.Answers.{Asking, question_of};
 ghost use Rattle.braking.specs.Meaning.{Meaning};
-ghost use Rattle.units.specs.declared.limits.TheConstants.{FASTEST, STEEPEST_FALL, STEEPEST_RISE};
+ghost use Rattle.units.specs.declared.limits.TheConstants.{MAX_SPEED, STEEPEST_FALL, STEEPEST_RISE};
 
 use crate::question::Question;
 use crate::refusal::Refusal;
 use crate::top_speed::TopSpeed;
 use std::marker::Model;
-use units::{Grade, STEEPEST_FALL, STEEPEST_RISE, Speed};
+use units::{Grade, Speed};
 
 // A question that can be answered: its speeds and its grade are within limits, and its target binds the train. Only `Question::ask` makes one.
 #[derive(Clone, Copy, Debug, PartialEq, Eq)]
 pub struct Approach {
     speed: Speed,
-    target: Speed,
+    target_speed: Speed,
     grade: Grade,
 }
 
@@ -24,28 +24,28 @@ impl Model for Approach {
 
     ghost use Rattle.braking.specs.Approaches.{IsAnswerable};
 
-    ghost view = { λ a. record { speed = a.speed.tenths; target = a.target.tenths; grade = a.grade.thousandths } };
+    ghost view = { λ a. record { speed = a.speed.tenths; target_speed = a.target_speed.tenths; grade = a.grade.thousandths } };
 
     ghost invariant = { IsAnswerable };
 
-    ghost inverse = { λ q. record { speed = record { tenths = q.speed }; target = record { tenths = q.target }; grade = record { thousandths = q.grade } } };
+    ghost inverse = { λ q. record { speed = record { tenths = q.speed }; target_speed = record { tenths = q.target_speed }; grade = record { thousandths = q.grade } } };
 }
 
 impl Approach {
     // The train's speed.
     pub fn speed(self) -> Speed
         ensures value { result.tenths ≡ self.speed }
-        ensures slow { self.speed ≤ FASTEST.tenths }
+        ensures slow { self.speed ≤ MAX_SPEED.tenths }
     {
         self.speed
     }
 
     // The speed that the train is to come down to.
-    pub fn target(self) -> Speed
-        ensures value { result.tenths ≡ self.target }
-        ensures binding { self.target < self.speed }
+    pub fn target_speed(self) -> Speed
+        ensures value { result.tenths ≡ self.target_speed }
+        ensures binding { self.target_speed < self.speed }
     {
-        self.target
+        self.target_speed
     }
 
     // The least grade between train and target.
@@ -65,21 +65,21 @@ impl Question {
     {
         let Question {
             speed,
-            target,
+            target_speed,
             grade,
         } = self;
-        if speed > top.speed || target > top.speed {
+        if speed > top.speed || target_speed > top.speed {
             return Err(Refusal::TooFast);
         }
-        if !(STEEPEST_FALL..=STEEPEST_RISE).contains(&grade) {
+        if !grade.is_within_limits() {
             return Err(Refusal::GradeOutOfLimits);
         }
-        if speed <= target {
+        if speed <= target_speed {
             return Err(Refusal::NotBinding);
         }
         Ok(Approach {
             speed,
-            target,
+            target_speed,
             grade,
         })
     }

@@ -3,7 +3,7 @@
 mod approach;
 mod braking_model;
 mod distances;
-mod printed;
+mod printed_answer;
 mod question;
 mod refusal;
 mod top_speed;
@@ -11,7 +11,7 @@ mod top_speed;
 pub use approach::Approach;
 pub use braking_model::BrakingModel;
 pub use distances::Distances;
-pub use printed::Printed;
+pub use printed_answer::PrintedAnswer;
 pub use question::Question;
 pub use refusal::Refusal;
 pub use top_speed::TopSpeed;

@@ -4,6 +4,6 @@ use units::{Grade, Speed};
 #[derive(Clone, Copy, Debug, PartialEq, Eq)]
 pub struct Question {
     pub speed: Speed,
-    pub target: Speed,
+    pub target_speed: Speed,
     pub grade: Grade,
 }

@@ -17,7 +17,7 @@ pub enum Refusal {
 impl Refusal {
     ghost use Rattle.braking.specs.Refusals.{number};
 
-    // The number by which the refusal is known outside, listed in docs/REFUSALS.md.
+    // The number by which the refusal is reported.
     pub fn number(self) -> u8
         ensures { result ≡ number self }
     {

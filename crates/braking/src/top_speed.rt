@@ -1,5 +1,5 @@
 ghost use Rattle.std.specs.Prelude.{◌≤◌};
-ghost use Rattle.units.specs.declared.limits.TheConstants.{FASTEST};
+ghost use Rattle.units.specs.declared.limits.TheConstants.{MAX_SPEED};
 
 use units::Speed;
 
@@ -7,5 +7,5 @@ use units::Speed;
 #[derive(Clone, Copy, Debug, PartialEq, Eq)]
 pub struct TopSpeed {
     pub speed: Speed,
-    ghost bounded: { speed.tenths ≤ FASTEST.tenths },
+    ghost bounded: { speed.tenths ≤ MAX_SPEED.tenths },
 }

@@ -1,5 +1,5 @@
 ghost use Rattle.std.specs.Prelude.{◌≡◌, Some};
-ghost use Rattle.sheet_text.specs.Faults.{answer_text};
+ghost use Rattle.sheet_text.specs.Faults.{fault_text};
 ghost use Rattle.call_text.specs.Faults.{fault_byte, layer_of, number};
 
 use crate::call_fault::CallFault;
@@ -33,7 +33,7 @@ impl CallFault {
         }
     }
 
-    // The reader that the fault belongs to.
+    // What the fault is about.
     pub fn layer(self) -> Layer
         ensures { result ≡ layer_of self }
     {
@@ -47,7 +47,7 @@ impl CallFault {
 
 // A fault prints as its number, byte and layer.
 impl fmt::Display for CallFault {
-    ghost output = { λ fault. Some (answer_text (number fault) (fault_byte fault) (layer_of fault)) };
+    ghost output = { λ fault. Some (fault_text (number fault) (fault_byte fault) (layer_of fault)) };
 
     fn fmt<W: fmt::Write>(&self, f: &mut fmt::Formatter<W>) -> fmt::Result {
         write!(

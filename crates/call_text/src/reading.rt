@@ -47,7 +47,7 @@ fn read_line(text: &[u8]) -> CallLine
 }
 
 // The first line of a text as a call, or its first fault, and where the next line begins. A line is taken exactly where it is the text of a call.
-// The first clause is what `read_line` promises; the others follow from that clause alone.
+// `read_line` reads and promises `answers` alone; the other clauses follow from that one.
 pub fn read_call(text: &[u8]) -> CallLine
     ensures answers { TextAnswers text.now result.call result.next }
     ensures exactly { (c : SomeCall) (rest : List ℕ) → IsWritable c → text.now ≡ written_call c ++ rest → result.call ≡ TheCall c }

@@ -2,7 +2,7 @@
 
 // Reads the first line of each of many texts, each ended by a byte 1, as a call, and prints what is answered to it and where the next line begins.
 use call_text::read_call;
-use input::{MANY_TEXTS, TEXT_END, ended_texts, read_at_most};
+use input::{MAX_BYTES_OF_TEXTS, TEXT_END, ended_texts, read_at_most};
 use std::io;
 
 fn show(rt: &impl Print, text: &[u8]) -> io::Result<()> {
@@ -15,7 +15,7 @@ fn show(rt: &impl Print, text: &[u8]) -> io::Result<()> {
 }
 
 fn main(rt: HostRuntime) -> io::Result<()> {
-    let texts = read_at_most(rt.alloc(), rt.stdin(), MANY_TEXTS)?;
+    let texts = read_at_most(rt.alloc(), rt.stdin(), MAX_BYTES_OF_TEXTS)?;
     for text in ended_texts(rt.alloc(), texts.as_slice(), TEXT_END)?.as_slice() {
         show(&rt, text)?;
     }

@@ -4,10 +4,10 @@ use Rattle.std.specs.Fmt.{signed_decimal}
 use Rattle.calls.specs.declared.call.Call.{Call}
 use Rattle.calls.specs.declared.call.Call.TheVariants.{Slope, Announce, Withdraw, Sample, Release}
 
-abbrev pub call_shown : Call → List ℕ
-call_shown (Slope place grade) = codes "slope place=" ++ (decimal place.millimetres ++ (codes " grade=" ++ signed_decimal grade.thousandths))
-call_shown (Announce n point distance speed) =
+abbrev pub call_text : Call → List ℕ
+call_text (Slope place grade) = codes "slope place=" ++ (decimal place.millimetres ++ (codes " grade=" ++ signed_decimal grade.thousandths))
+call_text (Announce n point distance speed) =
     codes "announce number=" ++ (decimal n ++ (codes " point=" ++ (decimal point.millimetres ++ (codes " distance=" ++ (decimal distance.millimetres ++ (codes " speed=" ++ decimal speed.tenths))))))
-call_shown (Withdraw n) = codes "withdraw number=" ++ decimal n
-call_shown (Sample place speed) = codes "sample place=" ++ (decimal place.millimetres ++ (codes " speed=" ++ decimal speed.tenths))
-call_shown Release = codes "release"
+call_text (Withdraw n) = codes "withdraw number=" ++ decimal n
+call_text (Sample place speed) = codes "sample place=" ++ (decimal place.millimetres ++ (codes " speed=" ++ decimal speed.tenths))
+call_text Release = codes "release"

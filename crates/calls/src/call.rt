@@ -11,7 +11,7 @@ pub enum Call {
         place: Distance,
         grade: Grade,
     },
-    // from a distance behind the point on, no more than this speed
+    // no more than this speed from the place that lies this distance beyond the point, less eps percent of the distance
     Announce {
         number: u16,
         point: Distance,
@@ -33,9 +33,9 @@ pub enum Call {
 
 // A call prints as its word and its values, each a bare number in the unit of its quantity.
 impl fmt::Display for Call {
-    ghost use Rattle.calls.specs.Printed.{call_shown};
+    ghost use Rattle.calls.specs.Printed.{call_text};
 
-    ghost output = { λ c. Some (call_shown c) };
+    ghost output = { λ c. Some (call_text c) };
 
     fn fmt<W: fmt::Write>(&self, f: &mut fmt::Formatter<W>) -> fmt::Result {
         match self {

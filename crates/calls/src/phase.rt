@@ -4,7 +4,7 @@ ghost use Rattle.calls.specs.Phases.{applies_brake, cuts_traction, phase_word};
 use std::fmt;
 
 // What the mission asks of the train, each phase more than the one before.
-#[derive(Clone, Copy, Debug, PartialEq, Eq, PartialOrd, Ord, Hash)]
+#[derive(Clone, Copy, Debug, PartialEq, Eq, PartialOrd, Ord)]
 pub enum Phase {
     Free,
     Warning,
@@ -12,14 +12,14 @@ pub enum Phase {
 }
 
 impl Phase {
-    // The traction is to be cut.
+    // Whether traction is to be cut.
     pub fn cuts_traction(self) -> bool
         ensures { result ≡ cuts_traction self }
     {
         self >= Phase::Warning
     }
 
-    // The emergency brake is to be on.
+    // Whether the emergency brake is to be on.
     pub fn applies_brake(self) -> bool
         ensures { result ≡ applies_brake self }
     {

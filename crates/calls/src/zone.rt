@@ -1,10 +1,10 @@
 ghost use Rattle.std.specs.Prelude.{◌≡◌};
 ghost use Rattle.calls.specs.Zones.{zone_number};
 
-// How near the train is to the nearest of its braking distances, from clear to within control, in the order of their numbers.
-#[derive(Clone, Copy, Debug, PartialEq, Eq, PartialOrd, Ord, Hash)]
+// Within which of its braking distances a train has a target, in the order of their numbers. A sample has the largest zone of its targets, and control where the train is above the model's top speed.
+#[derive(Clone, Copy, Debug, PartialEq, Eq, PartialOrd, Ord)]
 pub enum Zone {
-    // beyond the nominal distance
+    // beyond the nominal distance, or no target binds
     Clear = 0,
     // within the nominal distance
     Nominal = 1,

@@ -20,19 +20,19 @@ natural_of : (n : ℕ) (z : ℤ) → z ≡ pos n → natural z ≡ n
 natural_of n z e = rw e refl
 
 sum_same : (a b x y : Fraction) → a ≈ x → b ≈ y → (a ⊕ b) ≈ (x ⊕ y)
-sum_same a b x y e f = omega (arith, ap (λ (n : ℕ). n * (b.under * y.under)) e, ap (λ (n : ℕ). n * (a.under * x.under)) f)
+sum_same a b x y e f = omega (arith, ap (λ (n : ℕ). n * (b.denominator * y.denominator)) e, ap (λ (n : ℕ). n * (a.denominator * x.denominator)) f)
 
 -- a speed of V in fine steps, over 250,000,000,000
-run_same : (b : Fraction) (t V : ℕ) → b.over ≡ 250000000000000 * V → b.under ≡ 250000000000 → reaction_distance (10000000 * t) b ≈ ratio (25 * (t * V)) 9
-run_same b t V is-over is-under = rw (is-over, is-under) (omega arith)
+run_same : (b : Fraction) (t V : ℕ) → b.numerator ≡ 250000000000000 * V → b.denominator ≡ 250000000000 → reaction_distance (10000000 * t) b ≈ ratio (25 * (t * V)) 9
+run_same b t V is-numerator is-denominator = rw (is-numerator, is-denominator) (omega arith)
 
 product_same : (f m n a x : ℕ) → f ≡ 62500000000000000000000000000 * x → m ≡ 81 * a → n ≡ 101250000000000000000000000000 * a → 625 * f * (1 * 1) * m ≡ 31250 * x * n
 product_same f m n a x is_f is_m is-n = rw (is_f, is_m, is-n) (omega arith)
 
-braked_same : (b d : Fraction) (V V0 a x : ℕ) → b.over ≡ 250000000000000 * V → b.under ≡ 250000000000 → d.over ≡ 10000 * a → d.under ≡ 1 → 1 ≤ a → V * V ≡ V0 * V0 + x →
+braked_same : (b d : Fraction) (V V0 a x : ℕ) → b.numerator ≡ 250000000000000 * V → b.denominator ≡ 250000000000 → d.numerator ≡ 10000 * a → d.denominator ≡ 1 → 1 ≤ a → V * V ≡ V0 * V0 + x →
     braking_distance b (1000 * V0) d ≈ ratio (31250 * x) (81 * a)
-braked_same b d V V0 a x is-over is-under is-d is_one some is_x =
-    rw (is-over, is-under, is-d, is_one) (product_same _ _ _ a x (omega (arith, is_x)) (omega (arith, some)) (omega (arith, some)))
+braked_same b d V V0 a x is-numerator is-denominator is-d is_one some is_x =
+    rw (is-numerator, is-denominator, is-d, is_one) (product_same _ _ _ a x (omega (arith, is_x)) (omega (arith, some)) (omega (arith, some)))
 
 module _ (d : BrakeData) (warning hysteresis : ℕ) (least : 300 ≤ d.deceleration) where
   weak_under : (q : Question) → together d q.grade <ℤ pos 500000 → (meaning_of d warning hysteresis).verdict q ≡ weak
@@ -48,8 +48,8 @@ module _ (d : BrakeData) (warning hysteresis : ℕ) (least : 300 ≤ d.decelerat
   level_same V V0 lower =
       let s : Stop = stop_for d warning hysteresis (on_the_level V V0) in
       let is-natural = natural_of (250000000000000 * V) (pos (250000000000 * (1000 * V)) -ℤ pos (9 * (10000000 * d.reaction) * 0)) (omega (arith, ints)) in
-      let is-reached : (speed_reached s).over ≡ 250000000000000 * V = omega (arith, is-natural, lower) in
-      let is-net : (net_positive s).over ≡ 10000 * d.deceleration = omega arith in
+      let is-reached : (speed_reached s).numerator ≡ 250000000000000 * V = omega (arith, is-natural, lower) in
+      let is-net : (net_positive s).numerator ≡ 10000 * d.deceleration = omega arith in
       let squares : V0 * V0 ≤ V * V = mul-le-mul (le_of_lt lower) (le_of_lt lower) in
       sum_same (reaction_distance (10000000 * d.reaction) (speed_reached s)) (braking_distance (speed_reached s) (1000 * V0) (net_positive s))
       (ratio (25 * (d.reaction * V)) 9) (ratio (31250 * (V * V - V0 * V0)) (81 * d.deceleration))

@@ -19,7 +19,7 @@ reaction_ticks d = 10000000 * d.reaction
 abbrev pub stop_for : BrakeData → (warning hysteresis : ℕ) → Question → Stop
 stop_for d warning hysteresis q = record {
   speed = q.speed;
-  target = q.target;
+  target_speed = q.target_speed;
   reaction = reaction_ticks d;
   slope = slope_of q.grade;
   braking = whole (braking_units d);

@@ -1,7 +1,7 @@
 -- The brake keeps the laws of a braking model, over all numbers that a maker may state.
 use Rattle.std.specs.Prelude.{ℕ, ◌≤◌}
 use Rattle.std.proofs.Common.{le_trans, arith}
-use Rattle.units.specs.declared.limits.TheConstants.{FASTEST}
+use Rattle.units.specs.declared.limits.TheConstants.{MAX_SPEED}
 use Rattle.units.specs.Fractions.{whole}
 use Rattle.braking.specs.Meaning.{Question, Asked, Binds}
 use Rattle.braking.specs.Laws.{Lawful}
@@ -16,7 +16,7 @@ use Rattle.constant_brake.specs.declared.brake_data.BrakeData.{BrakeData}
 whole_near : (n : ℕ) → Near (whole n) n
 whole_near n = record { down = omega arith; close = omega arith }
 
-module _ (d : BrakeData) (warning hysteresis : ℕ) (brief : d.reaction ≤ 200) (slow : d.top.tenths ≤ FASTEST.tenths) (warning_brief : warning ≤ 100) (hysteresis_brief : hysteresis ≤ 100) where
+module _ (d : BrakeData) (warning hysteresis : ℕ) (brief : d.reaction ≤ 200) (slow : d.top.tenths ≤ MAX_SPEED.tenths) (warning_brief : warning ≤ 100) (hysteresis_brief : hysteresis ≤ 100) where
   stop_limited : (q : Question) → Asked d.top.tenths q → Binds (meaning_of d warning hysteresis) q → Limited (stop_for d warning hysteresis q)
   stop_limited q asked binds = record {
     slow = le_trans asked.slow slow;

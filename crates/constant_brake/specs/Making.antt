@@ -8,10 +8,10 @@ use Rattle.constant_brake.specs.declared.refusal.Refusal.{Refusal}
 use Rattle.constant_brake.specs.declared.refusal.Refusal.TheVariants.{DecelerationOutOfRange, ReactionTooLong, TopSpeedTooHigh}
 
 -- When a refusal is due: each is asked only where those before it are not due.
-abbrev pub IsRefusedFor : BrakeData → Refusal → Type 0
-IsRefusedFor d DecelerationOutOfRange = deceleration_fits d.deceleration ≡ false
-IsRefusedFor d ReactionTooLong = (deceleration_fits d.deceleration ≡ true) × (reaction_fits d.reaction ≡ false)
-IsRefusedFor d TopSpeedTooHigh = (deceleration_fits d.deceleration ≡ true) × (reaction_fits d.reaction ≡ true) × (top_fits d.top.tenths ≡ false)
+abbrev pub RefusalDue : BrakeData → Refusal → Type 0
+RefusalDue d DecelerationOutOfRange = deceleration_fits d.deceleration ≡ false
+RefusalDue d ReactionTooLong = (deceleration_fits d.deceleration ≡ true) × (reaction_fits d.reaction ≡ false)
+RefusalDue d TopSpeedTooHigh = (deceleration_fits d.deceleration ≡ true) × (reaction_fits d.reaction ≡ true) × (top_fits d.top.tenths ≡ false)
 
 -- Every number is in its range.
 pub record Fits (d : BrakeData) : Type 0 where
@@ -27,4 +27,4 @@ pub record HasNumbers (d : BrakeData) (v : Values) (b : ConstantBrake) : Type 0 
 
 abbrev pub MakesBrake : BrakeData → Values → Result ConstantBrake Refusal → Type 0
 MakesBrake d v (Ok b) = Fits d × HasNumbers d v b
-MakesBrake d v (Err e) = IsRefusedFor d e
+MakesBrake d v (Err e) = RefusalDue d e

@@ -14,7 +14,7 @@ together d grade = pos (10000 * d.deceleration) +ℤ slope_of grade
 
 -- From V down to V0 on the level, in tenths of km/h.
 abbrev pub on_the_level : (V V0 : ℕ) → Question
-on_the_level V V0 = record { speed = V; target = V0; grade = pos 0 }
+on_the_level V V0 = record { speed = V; target_speed = V0; grade = pos 0 }
 
 -- t V and (V² - V0²) / 2a, in mm, of t in tenths of a second and a in mm/s².
 abbrev pub level_control : BrakeData → (V V0 : ℕ) → Fraction

@@ -1,6 +1,6 @@
 -- Which numbers a maker may state of a brake.
 use Rattle.std.specs.Prelude.{ℕ, Bool, ◌&&◌, nat_le}
-use Rattle.units.specs.declared.limits.TheConstants.{FASTEST}
+use Rattle.units.specs.declared.limits.TheConstants.{MAX_SPEED}
 
 -- In mm/s².
 abbrev pub deceleration_fits : ℕ → Bool
@@ -12,4 +12,4 @@ reaction_fits t = nat_le t 200
 
 -- In tenths of km/h.
 abbrev pub top_fits : ℕ → Bool
-top_fits v = nat_le v FASTEST.tenths
+top_fits v = nat_le v MAX_SPEED.tenths

@@ -13,10 +13,10 @@ use stopping::{BrakeDeceleration, ReactionTime, Steps, Stop, slope};
 use units::Time;
 
 // How many units of deceleration are 1 mm/s².
-const UNITS: u64 = 10_000;
+const UNITS_PER_MM_PER_S2: u64 = 10_000;
 
 // How many ticks are a tenth of a second.
-const TICKS: u64 = 10_000_000;
+const TICKS_PER_TENTH: u64 = 10_000_000;
 
 impl ConstantBrake {
     // The steps from a question to its answer, or the first reason why it is turned down. In none of the formulas is a difference cut off at 0, or anything divided by 0.
@@ -36,7 +36,7 @@ impl ConstantBrake {
         let slope = slope(approach);
         Stop {
             speed: approach.speed(),
-            target: approach.target(),
+            target_speed: approach.target_speed(),
             reaction: self.reaction_time(),
             slope,
             braking: self.brake_deceleration(),
@@ -49,7 +49,7 @@ impl ConstantBrake {
         ensures { result.units ≡ braking_units self.now.stated }
     {
         BrakeDeceleration {
-            units: UNITS * u64::from(self.stated.deceleration),
+            units: UNITS_PER_MM_PER_S2 * u64::from(self.stated.deceleration),
         }
     }
 
@@ -59,7 +59,7 @@ impl ConstantBrake {
     {
         ReactionTime {
             time: Time {
-                ticks: TICKS * u64::from(self.stated.reaction),
+                ticks: TICKS_PER_TENTH * u64::from(self.stated.reaction),
             },
         }
     }

@@ -1,5 +1,5 @@
 ghost use Rattle.std.specs.Prelude.{◌≤◌};
-ghost use Rattle.units.specs.declared.limits.TheConstants.{FASTEST};
+ghost use Rattle.units.specs.declared.limits.TheConstants.{MAX_SPEED};
 
 use crate::brake_data::BrakeData;
 use stopping::LeadTimes;
@@ -12,5 +12,5 @@ pub struct ConstantBrake {
     ghost not_weaker: { 300 ≤ stated.deceleration },
     ghost not_stronger: { stated.deceleration ≤ 2000 },
     ghost brief: { stated.reaction ≤ 200 },
-    ghost slow: { stated.top.tenths ≤ FASTEST.tenths },
+    ghost slow: { stated.top.tenths ≤ MAX_SPEED.tenths },
 }

@@ -7,7 +7,7 @@ use crate::brake_data::BrakeData;
 use crate::refusal::Refusal;
 use sheet::Admitted;
 use stopping::{LeadTime, LeadTimes};
-use units::FASTEST;
+use units::MAX_SPEED;
 
 // The least and the greatest deceleration, in mm/s².
 const WEAKEST: u16 = 300;
@@ -36,7 +36,7 @@ impl BrakeData {
     fn top_fits(self) -> bool
         ensures { result ≡ top_fits self.top.tenths }
     {
-        self.top <= FASTEST
+        self.top <= MAX_SPEED
     }
 }
 

@@ -6,7 +6,7 @@ mod steps_lines;
 mod table;
 
 use braking::Question;
-use input::{ONE_TEXT, read_at_most};
+use input::{MAX_BYTES_OF_TEXT, read_at_most};
 use models::SheetModel;
 use sheet::Draft;
 use sheet_lines::show_sheet;
@@ -19,12 +19,12 @@ use units::{Grade, Speed};
 // The question whose steps are shown: from 100 km/h to a stop on the level.
 const SHOWN: Question = Question {
     speed: Speed { tenths: 1_000 },
-    target: Speed { tenths: 0 },
+    target_speed: Speed { tenths: 0 },
     grade: Grade { thousandths: 0 },
 };
 
 fn main(rt: HostRuntime) -> io::Result<()> {
-    let text = read_at_most(rt.alloc(), rt.stdin(), ONE_TEXT)?;
+    let text = read_at_most(rt.alloc(), rt.stdin(), MAX_BYTES_OF_TEXT)?;
     // a fault of the sheet is printed, and is no error of the program
     let sheet = match read_admitted(text.as_slice()) {
         Ok(sheet) => sheet,

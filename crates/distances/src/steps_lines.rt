@@ -10,7 +10,7 @@ pub(crate) fn show_steps(
 ) -> io::Result<()> {
     println!(rt;
         "speed={} target={} grade={}",
-        question.speed.tenths, question.target.tenths, question.grade.thousandths
+        question.speed.tenths, question.target_speed.tenths, question.grade.thousandths
     )?;
     // a refusal is printed, and is no error of the program
     let steps = match model.steps(question) {
@@ -19,7 +19,7 @@ pub(crate) fn show_steps(
     };
     println!(rt; "reaction={}", steps.reaction.ticks)?;
     println!(rt; "slope={}", steps.slope.units)?;
-    println!(rt; "reached={}", steps.reached.steps)?;
+    println!(rt; "reached={}", steps.reached.fine_steps)?;
     println!(rt; "net={}", steps.net.units)?;
     // a line for each distance, where their `Display` puts them into one
     match steps.answer {

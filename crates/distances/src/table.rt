@@ -10,7 +10,7 @@ const GRADES: [i64; 7] = [-35, -21, -20, -10, 0, 10, 35];
 fn show_row(rt: &impl Print, model: &SheetModel, speed: Speed, grade: Grade) -> io::Result<()> {
     let question = Question {
         speed,
-        target: Speed { tenths: 0 },
+        target_speed: Speed { tenths: 0 },
         grade,
     };
     print!(rt; "{} {} ", speed.tenths, grade.thousandths)?;

@@ -17,6 +17,6 @@ pub use faults::{TextFault, ValueFault};
 pub use field::Field;
 pub use first_byte::first_of;
 pub use form::Form;
-pub use keys::{begins_with, value_behind};
+pub use keys::value_behind;
 pub use signed::read_signed;
 pub use span::Span;

@@ -11,8 +11,8 @@ sheet_a = record { model = Scmt; regime = Operation; train = Passenger; brake = 
 
 -- Sheet A with lambda 45 and kr 30.
 abbrev pub weak_sheet : Values
-weak_sheet = record { model = Scmt; regime = Operation; train = Passenger; brake = Passenger; ep = 0; lambda = 45; length = 400; lfren = Fixed; kr = 30; tw = 20; ti = 30; eps = 0 }
+weak_sheet = record sheet_a { lambda = 45; kr = 30 }
 
 -- Sheet A as etcs, with kr 57.
 abbrev pub etcs_sheet : Values
-etcs_sheet = record { model = Etcs; regime = Operation; train = Passenger; brake = Passenger; ep = 0; lambda = 100; length = 400; lfren = Fixed; kr = 57; tw = 20; ti = 30; eps = 0 }
+etcs_sheet = record sheet_a { model = Etcs; kr = 57 }

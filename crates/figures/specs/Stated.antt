@@ -12,7 +12,7 @@ use Rattle.figures.specs.Sheets.{sheet_a, weak_sheet, etcs_sheet}
 
 -- From 100 km/h to a stop.
 abbrev pub to_stop : ℤ → Question
-to_stop grade = record { speed = 1000; target = 0; grade = grade }
+to_stop grade = record { speed = 1000; target_speed = 0; grade = grade }
 
 -- What the model that a sheet names says of a question.
 abbrev pub verdict_on : Values → Question → Verdict

@@ -6,7 +6,7 @@ use Rattle.braking.specs.Meaning.{Question}
 use Rattle.calls.specs.declared.phase.Phase.TheVariants.{Free, Warning, Emergency}
 use Rattle.calls.specs.declared.record.Record.{Record}
 use Rattle.history.specs.History.{History, Target, Bound, slope, announce, withdraw, sample, release}
-use Rattle.history.specs.Lines.{Lines, Reason, MayBrake, IsClear, LastSampleClear}
+use Rattle.history.specs.Lines.{Lines, Reason, MayBrake, MayRelease, LastSampleJustifies}
 use Rattle.history.specs.State.{empty_track, full_capacity, State, empty, start}
 use Rattle.history.specs.Zones.{question}
 use Rattle.history.proofs.Tracked.{Tracks}
@@ -41,7 +41,7 @@ goal = record { number = 7; place = 990; speed = 5 }
 near : Bound sheet tenfold one_target 790 20 goal (question made.track.sections.items 790 20 goal)
 near = record { stands = tracked.target_stands goal (inl refl); asks_speed = refl; asks_target = refl; asks_grade = ahead_is sheet one_target made tracked 790 990; binds = refl }
 
-never : (h : History) → false ≡ true → LastSampleClear sheet tenfold h
+never : (h : History) → false ≡ true → LastSampleJustifies sheet tenfold h
 never h e = grind arith
 
 -- As far from the target as the margin keeps the brake off, or further.
@@ -70,7 +70,7 @@ nothing : (front speed : ℕ) → sample 0 50 ≡ sample front speed → Reason 
 nothing front speed c (inl fast) = grind arith
 nothing front speed c (inr w) = stands_none sheet w.1.0 w.1.2.stands
 
-soon : LastSampleClear sheet tenfold (accepted_entry (sample 0 51) Emergency ∷ []) → ⊥
+soon : LastSampleJustifies sheet tenfold (accepted_entry (sample 0 51) Emergency ∷ []) → ⊥
 soon w =
     elim (split_push [] w.before (accepted_entry (sample 0 51) Emergency) w.entry w.last.after w.last.split) [
       | inl p ↦
@@ -89,7 +89,7 @@ braking = record made { phase = Emergency }
 braked_tracked : Tracks sheet braked braking
 braked_tracked = tracks_sampled sheet one_target made tracked 790 20 Emergency (Ok None)
 
-yet : LastSampleClear sheet tenfold (braked ++ accepted_entry (sample 740 20) Emergency ∷ []) → ⊥
+yet : LastSampleJustifies sheet tenfold (braked ++ accepted_entry (sample 740 20) Emergency ∷ []) → ⊥
 yet w =
     let r : Record = accepted_entry (sample 740 20) Emergency in
     elim (split_push braked w.before r w.entry w.last.after w.last.split) [
@@ -100,7 +100,7 @@ yet w =
           let q : Question = question made.track.sections.items 740 20 goal in
           let b : Bound sheet tenfold braked 740 20 goal (question made.track.sections.items 740 20 goal) = record { stands = braked_tracked.target_stands goal (inl refl); asks_speed = refl; asks_target = refl; asks_grade = ahead_is sheet braked braking braked_tracked 740 990; binds = refl } in
           let b' : Bound sheet tenfold w.before w.front w.speed goal (question made.track.sections.items 740 20 goal) = grind arith in
-          let short : IsClear (tenfold.verdict (question made.track.sections.items 740 20 goal)) 740 990 = subst (λ (x : ℕ). IsClear (tenfold.verdict q) x 990) ef (w.all_clear goal q b') in
+          let short : MayRelease (tenfold.verdict (question made.track.sections.items 740 20 goal)) 740 990 = subst (λ (x : ℕ). MayRelease (tenfold.verdict q) x 990) ef (w.all_let_go goal q b') in
           omega (arith, short)
       | inr p ↦ w.last.refused p.0 r [] p.1 tt
     ]
@@ -144,8 +144,8 @@ ruled_out = record {
   too_early = λ k. let l : Lines sheet tenfold one_target _ = k one_target _ [] refl in let w = l.for_a_reason off refl in early _ w.0 w.1 w.2.0 w.3 (omega arith);
   unasked = λ k. let l : Lines sheet tenfold (accepted_entry (sample 0 51) Emergency ∷ []) (accepted_entry (sample 0 20) Free) = k (_ ∷ []) _ [] refl in
       grind arith;
-  too_soon = λ k. let l : Lines sheet tenfold (accepted_entry (sample 0 51) Emergency ∷ []) (accepted_entry release Free) = k (_ ∷ []) _ [] refl in soon (l.when_clear refl off).1;
-  not_yet = λ k. let l : Lines sheet tenfold (braked ++ accepted_entry (sample 740 20) Emergency ∷ []) (accepted_entry release Free) = k (braked ++ accepted_entry (sample 740 20) Emergency ∷ []) _ [] refl in yet (l.when_clear refl off).1;
+  too_soon = λ k. let l : Lines sheet tenfold (accepted_entry (sample 0 51) Emergency ∷ []) (accepted_entry release Free) = k (_ ∷ []) _ [] refl in soon (l.when_justified refl off).1;
+  not_yet = λ k. let l : Lines sheet tenfold (braked ++ accepted_entry (sample 740 20) Emergency ∷ []) (accepted_entry release Free) = k (braked ++ accepted_entry (sample 740 20) Emergency ∷ []) _ [] refl in yet (l.when_justified refl off).1;
   unknown_grade = λ k. let l : Lines sheet tenfold lone (accepted_entry (sample 0 20) Free) = k lone _ [] refl in off (l.in_time.too_near 0 20 (refl, tt) (lit≤ tt) goal _ steep tt);
   withdrawn = λ k. let l : Lines sheet tenfold ended (accepted_entry (sample 790 20) Emergency) = k ended _ [] refl in let w = l.for_a_reason off refl in gone w.0 w.1 w.2.0 w.3;
   no_sample = λ k. let l : Lines sheet tenfold [] (accepted_entry (slope 0 (pos 4)) Emergency) = k [] _ [] refl in let w = l.for_a_reason off refl in grind arith;

@@ -1,27 +1,13 @@
 -- What one more item, and one fewer, does to a list of sections or targets.
-use Rattle.std.proofs.Common.{◌≡◌, ℕ, ◌<◌, false, eqb, ltb, ◌⊎◌, List, [], ◌∷◌, refl, inl, inr, arith}
+use Rattle.std.proofs.Common.{◌≡◌, ℕ, ◌<◌, false, eqb, ltb, List, [], ◌∷◌, refl, inl, inr, arith}
 use Rattle.std.proofs.lemmas.Bool.{cond_both, ltb-true, or_parts}
 use Rattle.place_list.specs.Insertion.{placed_in}
 use Rattle.place_list.specs.Membership.{In}
+use Rattle.place_list.proofs.Members.{one_more_placed}
 use Rattle.history.specs.History.{Section, Target}
 use Rattle.history.specs.State.{begins_at}
 use Rattle.history.specs.Step.{without_number}
 use Rattle.history.proofs.Tracked.{Above, Ascends, Distinct}
-
-module _ {X : Type 0} (place : X → ℕ) (x : X) where
-  pub in_placed_new : (xs : List X) → In x (placed_in place x xs)
-  in_placed_new [] = inl refl
-  in_placed_new (y ∷ ys) = cond_both (ltb (place x) (place y)) (x ∷ y ∷ ys) (y ∷ placed_in place x ys) (In x) (λ e. inl refl) (λ e. inr (in_placed_new ys))
-
-  pub in_placed_old : (xs : List X) (z : X) → In z xs → In z (placed_in place x xs)
-  in_placed_old [] z i = absurd i
-  in_placed_old (y ∷ ys) z i = cond_both (ltb (place x) (place y)) (x ∷ y ∷ ys) (y ∷ placed_in place x ys) (In z) (λ e. inr i) (λ e. elim i [ inl k ↦ inl k | inr j ↦ inr (in_placed_old ys z j) ])
-
-  pub in_placed_cases : (xs : List X) (z : X) → In z (placed_in place x xs) → (z ≡ x) ⊎ In z xs
-  in_placed_cases [] z i = i
-  in_placed_cases (y ∷ ys) z i = cond_both (ltb (place x) (place y)) (x ∷ y ∷ ys) (y ∷ placed_in place x ys) (λ (l : List X). In z l → (z ≡ x) ⊎ In z (y ∷ ys))
-      (λ e i. i)
-      (λ e i. elim i [ inl k ↦ inr (inl k) | inr j ↦ elim (in_placed_cases ys z j) [ inl k ↦ inl k | inr m ↦ inr (inr m) ] ]) i
 
 abbrev pub section_place : Section → ℕ
 section_place x = x.place
@@ -51,9 +37,9 @@ placed_distinct t (u ∷ us) d n =
     cond_both (ltb t.place u.place) (t ∷ u ∷ us) (u ∷ placed_in target_stands_at t us) Distinct
     (λ e. (n, d))
     (λ e. (
-      (λ w i k. elim (in_placed_cases target_stands_at t us w i) [
-        | inl same ↦ n u (inl refl) (grind arith)
-        | inr j ↦ d.0 w j k
+      (λ w i k. elim ((one_more_placed target_stands_at t us).only w i) [
+        | inl j ↦ d.0 w j k
+        | inr same ↦ n u (inl refl) (grind arith)
       ]),
       placed_distinct t us d.1 (λ w i k. n w (inr i) k),
     ))

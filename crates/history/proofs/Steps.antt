@@ -14,7 +14,7 @@ use Rattle.calls.specs.declared.refusal.Refusal.{Refusal}
 use Rattle.calls.specs.declared.zone.Zone.TheVariants as zones
 use Rattle.sheet.specs.declared.values.Values.{Values}
 use Rattle.history.specs.History.{History, Target, Accepts, Bound, steepest, sample}
-use Rattle.history.specs.Lines.{Lines, LastSampleClear, Reason, MustBrake, IsClear, On}
+use Rattle.history.specs.Lines.{Lines, LastSampleJustifies, Reason, MustBrake, MayRelease, On}
 use Rattle.history.specs.State.{State, is_unfit}
 use Rattle.history.specs.Zones.{question, target_zone, largest_zone, zone_of, zone}
 use Rattle.history.specs.Step.{Stepped, step, does, decide, first, grounds, next_phase, is_releasable}
@@ -23,10 +23,10 @@ use Rattle.history.proofs.Tracked.{Tracks}
 use Rattle.history.proofs.Splits.{last_new, last_refused, not_true}
 use Rattle.history.proofs.Grades.{least_fit}
 use Rattle.history.proofs.Tracks.{ahead_is, ahead_one, same_front, same_speed, groundless}
-use Rattle.history.proofs.Zones.{must_control, control_may, clear_clear, binding_zone, one_control, all_clear, some_control, next_control, next_came, clear_is}
+use Rattle.history.proofs.Zones.{must_control, control_may, clear_may_release, binding_zone, one_control, all_clear, some_control, next_control, next_came, clear_is}
 
 abbrev asking : ℕ → ℕ → ℤ → Question
-asking v w g = record { speed = v; target = w; grade = g }
+asking v w g = record { speed = v; target_speed = w; grade = g }
 
 same_question : (v v' w w' : ℕ) (g g' : ℤ) → v ≡ v' → w ≡ w' → g ≡ g' → asking v w g ≡ asking v' w' g'
 same_question v v' w w' g g' a b c = grind arith
@@ -37,7 +37,7 @@ fit_asked m v w g l b f = let lower : w < v = ltb-true w v b in grind arith
 
 -- What is known of clear in the state that an entry leaves.
 abbrev pub Known : (sheet : Values) → Meaning → History → State → Type 0
-Known sheet m h s = s.clear ≡ true → LastSampleClear sheet m h
+Known sheet m h s = s.clear ≡ true → LastSampleJustifies sheet m h
 
 -- The lines at the entry of a step, and what is known after it.
 abbrev pub Good : (sheet : Values) → Meaning → History → Call → Stepped → Type 0
@@ -62,13 +62,13 @@ module _ (sheet : Values) (m : Meaning) (law : Lawful m) (h : History) (s : Stat
               speed = w.speed;
               sampled = w.sampled;
               not_too_fast = w.not_too_fast;
-              all_clear = w.all_clear;
+              all_let_go = w.all_let_go;
             },
       )
 
   -- the question of a binding target is the computed one
   pub asks : (front v : ℕ) (t : Target) (q : Question) → Bound sheet m h front v t q → q ≡ question s.track.sections.items front v t
-  asks front v t q b = same_question q.speed v q.target t.speed q.grade _ b.asks_speed b.asks_target (ahead_one sheet h s k front t.place q.grade b.asks_grade)
+  asks front v t q b = same_question q.speed v q.target_speed t.speed q.grade _ b.asks_speed b.asks_target (ahead_one sheet h s k front t.place q.grade b.asks_grade)
 
   fit : (front v : ℕ) (t : Target) → is_unfit (question s.track.sections.items front v t).grade ≡ false
   fit front v t = least_fit steepest front t.place s.track.sections.items refl k.fit
@@ -112,11 +112,11 @@ module _ (sheet : Values) (m : Meaning) (law : Lawful m) (h : History) (s : Stat
             )
       ]
 
-  clear_there : (front v : ℕ) → zone m s.track front v ≡ zones.Clear → v ≤ m.top → (t : Target) (q : Question) → Bound sheet m h front v t q → IsClear (m.verdict q) front t.place
+  clear_there : (front v : ℕ) → zone m s.track front v ≡ zones.Clear → v ≤ m.top → (t : Target) (q : Question) → Bound sheet m h front v t q → MayRelease (m.verdict q) front t.place
   clear_there front v none l t q b =
       let slow = binding front v t q b in
       let mine : target_zone m s.track.sections.items front v t ≡ zones.Clear = all_clear m s.track.sections.items front v s.track.targets.items t (k.target_listed t b.stands) (sym (slow_zone front v l) ∙ none) in
-      subst (λ (q : Question). IsClear (m.verdict q) front t.place) (sym (asks front v t q b)) (clear_clear _ front t.place (sound front v t slow l) (sym (zone_is front v t slow) ∙ mine))
+      subst (λ (q : Question). MayRelease (m.verdict q) front t.place) (sym (asks front v t q b)) (clear_may_release _ front t.place (sound front v t slow l) (sym (zone_is front v t slow) ∙ mine))
 
   good_sample : (p : Distance) (w : Speed) → Good sheet m h (Sample p w) (does sheet m s (Sample p w))
   good_sample p w =
@@ -133,12 +133,12 @@ module _ (sheet : Values) (m : Meaning) (law : Lawful m) (h : History) (s : Stat
                 (subst (λ (x : ℕ). MustBrake (m.verdict q) x t.place) ef must));
           };
           for_a_reason = λ off came. (p.millimetres, w.tenths, (refl, tt), reason p.millimetres w.tenths (next_came s.phase (zone m s.track p.millimetres w.tenths) (λ y. off (k.phase ∙ y)) came));
-          when_clear = λ was off. absurd (off (ap (λ (y : Phase). next_phase y (zone m s.track p.millimetres w.tenths)) (sym k.phase ∙ was)));
+          when_justified = λ was off. absurd (off (ap (λ (y : Phase). next_phase y (zone m s.track p.millimetres w.tenths)) (sym k.phase ∙ was)));
         },
         λ clear.
             let none : zone m s.track p.millimetres w.tenths ≡ zones.Clear = clear_is _ clear in
             let slow : w.tenths ≤ m.top = grind arith in
-            record { before = h; entry = e; last = last_new h e; front = p.millimetres; speed = w.tenths; sampled = (refl, tt); not_too_fast = slow; all_clear = clear_there p.millimetres w.tenths none slow },
+            record { before = h; entry = e; last = last_new h e; front = p.millimetres; speed = w.tenths; sampled = (refl, tt); not_too_fast = slow; all_let_go = clear_there p.millimetres w.tenths none slow },
       )
 
   released : (p : Phase) (b : Bool) → not (is_releasable p b) ≡ false → b ≡ true

@@ -6,7 +6,7 @@ use Rattle.sheet.specs.declared.values.Values.{Values}
 use Rattle.calls.specs.declared.phase.Phase.TheVariants.{Free}
 use Rattle.history.specs.History.{History, Section, Target, SectionStands, TargetStands}
 use Rattle.history.specs.Lines.{last_phase}
-use Rattle.history.specs.State.{State, first_behind, has_number, is_unfit, valid_sections, valid_targets}
+use Rattle.history.specs.State.{State, first_further_on, has_number, is_unfit, valid_sections, valid_targets}
 
 -- Each section begins further on than the one before it, the first after p.
 abbrev pub Above : ℕ → List Section → Type 0
@@ -35,26 +35,26 @@ pub record Tracks (sheet : Values) (h : History) (s : State) : Type 0 where
 
 -- The tests of the sections' type, read as facts, and back.
 
-above : (p : ℕ) (xs : List Section) → first_behind p xs ≡ true → valid_sections xs ≡ true → Above p xs
+above : (p : ℕ) (xs : List Section) → first_further_on p xs ≡ true → valid_sections xs ≡ true → Above p xs
 above p [] f v = tt
 above p (x ∷ xs) f v =
-    let w = and_parts (not (is_unfit x.grade) && first_behind x.place xs) (valid_sections xs) v in
+    let w = and_parts (not (is_unfit x.grade) && first_further_on x.place xs) (valid_sections xs) v in
     (ltb-true p x.place f, above x.place xs (and_parts _ _ w.0).1 w.1)
 
 pub valid_ascends : (xs : List Section) → valid_sections xs ≡ true → Ascends xs
 valid_ascends [] v = tt
 valid_ascends (x ∷ xs) v =
-    let w = and_parts (not (is_unfit x.grade) && first_behind x.place xs) (valid_sections xs) v in
+    let w = and_parts (not (is_unfit x.grade) && first_further_on x.place xs) (valid_sections xs) v in
     above x.place xs (and_parts _ _ w.0).1 w.1
 
 pub valid_fit : (xs : List Section) → valid_sections xs ≡ true → (x : Section) → In x xs → is_unfit x.grade ≡ false
 valid_fit [] v x i = absurd i
 valid_fit (y ∷ ys) v x i =
-    let w = and_parts (not (is_unfit y.grade) && first_behind y.place ys) (valid_sections ys) v in
+    let w = and_parts (not (is_unfit y.grade) && first_further_on y.place ys) (valid_sections ys) v in
     let here : is_unfit y.grade ≡ false = not-true _ (and_parts _ _ w.0).0 in
     elim i [ inl e ↦ rw e here | inr j ↦ valid_fit ys w.1 x j ]
 
-above_first : (p : ℕ) (xs : List Section) → Above p xs → first_behind p xs ≡ true
+above_first : (p : ℕ) (xs : List Section) → Above p xs → first_further_on p xs ≡ true
 above_first p [] a = refl
 above_first p (x ∷ xs) a = lt-ltb p x.place a.0
 

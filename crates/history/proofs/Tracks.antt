@@ -7,6 +7,7 @@ use Rattle.units.specs.declared.quantities.Grade.{Grade}
 use Rattle.units.specs.declared.quantities.Speed.{Speed}
 use Rattle.place_list.specs.Membership.{In}
 use Rattle.place_list.specs.Insertion.{placed_in}
+use Rattle.place_list.proofs.Members.{one_more_placed}
 use Rattle.braking.specs.Meaning.{Meaning}
 use Rattle.calls.specs.Answers.{Answer}
 use Rattle.calls.specs.declared.call.Call.{Call}
@@ -24,7 +25,7 @@ use Rattle.history.specs.Runs.{entry_of}
 use Rattle.history.proofs.Tracked.{Tracks, no_number}
 use Rattle.history.proofs.Splits.{last_push, accepted_more, accepted_new, accepted_cases, accepted_none, stands_more, stands_new, stands_cases, stands_none}
 use Rattle.history.proofs.Grades.{grade_in, GradeIn, grade_in_is, grade_in_one, least_below, least_reached, least_passed}
-use Rattle.history.proofs.Lists.{section_place, target_stands_at, in_placed_new, in_placed_old, in_placed_cases, placed_ascends, placed_distinct, in_without, without_in, without_distinct}
+use Rattle.history.proofs.Lists.{section_place, target_stands_at, placed_ascends, placed_distinct, in_without, without_in, without_distinct}
 
 pub tracks_start : (sheet : Values) (capacity : Capacity) → Tracks sheet [] (start (empty_track capacity))
 tracks_start sheet capacity = record {
@@ -183,17 +184,17 @@ module _ (sheet : Values) (m : Meaning) (h : History) (s : State) (k : Tracks sh
       record {
         phase = last_push Free h e;
         section_listed = λ x a. elim (accepted_cases h _ e a) [
-          | inl b ↦ in_placed_old section_place new s.track.sections.items x (k.section_listed x b)
-          | inr b ↦ subst (λ (y : Section). In y (placed_in section_place new s.track.sections.items)) (same_section _ x.place _ x.grade (ap slope_place b.0) (ap slope_grade b.0)) (in_placed_new section_place new s.track.sections.items)
+          | inl b ↦ (one_more_placed section_place new s.track.sections.items).rest x (k.section_listed x b)
+          | inr b ↦ subst (λ (y : Section). In y (placed_in section_place new s.track.sections.items)) (same_section _ x.place _ x.grade (ap slope_place b.0) (ap slope_grade b.0)) (one_more_placed section_place new s.track.sections.items).it
         ];
-        section_stands = λ x i. elim (in_placed_cases section_place new s.track.sections.items x i) [
-          | inl same ↦ subst (λ (y : Section). SectionStands (h ++ e ∷ []) y) (sym same) (accepted_new h e (refl, tt))
-          | inr j ↦ accepted_more e (k.section_stands x j)
+        section_stands = λ x i. elim ((one_more_placed section_place new s.track.sections.items).only x i) [
+          | inl j ↦ accepted_more e (k.section_stands x j)
+          | inr same ↦ subst (λ (y : Section). SectionStands (h ++ e ∷ []) y) (sym same) (accepted_new h e (refl, tt))
         ];
         ascends = placed_ascends new s.track.sections.items k.ascends free;
-        fit = λ x i. elim (in_placed_cases section_place new s.track.sections.items x i) [
-          | inl same ↦ subst (λ (y : Section). is_unfit y.grade ≡ false) (sym same) fit
-          | inr j ↦ k.fit x j
+        fit = λ x i. elim ((one_more_placed section_place new s.track.sections.items).only x i) [
+          | inl j ↦ k.fit x j
+          | inr same ↦ subst (λ (y : Section). is_unfit y.grade ≡ false) (sym same) fit
         ];
         target_listed = λ t a. elim (stands_cases sheet h t e a) [
           | inl b ↦ k.target_listed t b.0
@@ -218,16 +219,16 @@ module _ (sheet : Values) (m : Meaning) (h : History) (s : State) (k : Tracks sh
         ascends = k.ascends;
         fit = k.fit;
         target_listed = λ t a. elim (stands_cases sheet h t e a) [
-          | inl b ↦ in_placed_old target_stands_at new s.track.targets.items t (k.target_listed t b.0)
+          | inl b ↦ (one_more_placed target_stands_at new s.track.targets.items).rest t (k.target_listed t b.0)
           | inr b ↦
               let c : Announce n p d v ≡ announce t.number b.0 b.1 t.speed = b.2.0 in
               let place : target_place sheet p.millimetres d.millimetres ≡ t.place =
               ap (λ (x : ℕ). target_place sheet x d.millimetres) (ap point_in c) ∙ (ap (λ (x : ℕ). target_place sheet b.0 x) (ap distance_in c) ∙ sym b.3) in
-              subst (λ (u : Target). In u (placed_in target_stands_at new s.track.targets.items)) (same_target n t.number _ t.place _ t.speed (ap number_in c) place (ap speed_in c)) (in_placed_new target_stands_at new s.track.targets.items)
+              subst (λ (u : Target). In u (placed_in target_stands_at new s.track.targets.items)) (same_target n t.number _ t.place _ t.speed (ap number_in c) place (ap speed_in c)) (one_more_placed target_stands_at new s.track.targets.items).it
         ];
-        target_stands = λ t i. elim (in_placed_cases target_stands_at new s.track.targets.items t i) [
-          | inl same ↦ subst (λ (u : Target). TargetStands sheet (h ++ e ∷ []) u) (sym same) (stands_new sheet h new e p.millimetres d.millimetres (refl, tt) refl)
-          | inr j ↦ stands_more sheet h t e (k.target_stands t j) (λ b. grind arith)
+        target_stands = λ t i. elim ((one_more_placed target_stands_at new s.track.targets.items).only t i) [
+          | inl j ↦ stands_more sheet h t e (k.target_stands t j) (λ b. grind arith)
+          | inr same ↦ subst (λ (u : Target). TargetStands sheet (h ++ e ∷ []) u) (sym same) (stands_new sheet h new e p.millimetres d.millimetres (refl, tt) refl)
         ];
         distinct = placed_distinct new s.track.targets.items k.distinct (no_number n s.track.targets.items free);
       }

@@ -1,6 +1,7 @@
 -- What the type of a mission's lists holds is kept by every step.
 use Rattle.std.proofs.Common.{◌≡◌, ℕ, true, false, List, Some, None, refl, subst, inl, inr, sym}
 use Rattle.place_list.specs.Insertion.{placed_in}
+use Rattle.place_list.proofs.Members.{one_more_placed}
 use Rattle.sheet.specs.declared.values.Values.{Values}
 use Rattle.braking.specs.Meaning.{Meaning}
 use Rattle.calls.specs.declared.call.Call.{Call}
@@ -9,16 +10,16 @@ use Rattle.history.specs.History.{Section, Target}
 use Rattle.history.specs.State.{State, Valid, begins_at, has_number, is_unfit, valid_sections, valid_targets}
 use Rattle.history.specs.Step.{decide, does, first, grounds, step, without_number}
 use Rattle.history.specs.Theorem.{EveryStepKeepsValid}
-use Rattle.history.proofs.Lists.{section_place, target_stands_at, in_placed_cases, placed_ascends, placed_distinct, without_distinct}
+use Rattle.history.proofs.Lists.{section_place, target_stands_at, placed_ascends, placed_distinct, without_distinct}
 use Rattle.history.proofs.Tracked.{ascends_valid, distinct_valid, no_number, valid_ascends, valid_distinct, valid_fit}
 use Rattle.history.proofs.Tracks.{groundless}
 
 pub section_more : (x : Section) (xs : List Section) → valid_sections xs ≡ true → is_unfit x.grade ≡ false → begins_at x.place xs ≡ false → valid_sections (placed_in section_place x xs) ≡ true
 section_more x xs v fit free =
     ascends_valid (placed_in section_place x xs) (placed_ascends x xs (valid_ascends xs v) free)
-    (λ y i. elim (in_placed_cases section_place x xs y i) [
-      | inl same ↦ subst (λ (z : Section). is_unfit z.grade ≡ false) (sym same) fit
-      | inr j ↦ valid_fit xs v y j
+    (λ y i. elim ((one_more_placed section_place x xs).only y i) [
+      | inl j ↦ valid_fit xs v y j
+      | inr same ↦ subst (λ (z : Section). is_unfit z.grade ≡ false) (sym same) fit
     ])
 
 pub target_more : (t : Target) (ts : List Target) → valid_targets ts ≡ true → has_number t.number ts ≡ false → valid_targets (placed_in target_stands_at t ts) ≡ true

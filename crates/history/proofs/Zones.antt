@@ -12,7 +12,7 @@ use Rattle.calls.specs.declared.phase.Phase.TheVariants.{Emergency}
 use Rattle.calls.specs.declared.zone.Zone.{Zone}
 use Rattle.calls.specs.declared.zone.Zone.TheVariants as zones
 use Rattle.history.specs.History.{Section, Target}
-use Rattle.history.specs.Lines.{MustBrake, MayBrake, IsClear}
+use Rattle.history.specs.Lines.{MustBrake, MayBrake, MayRelease}
 use Rattle.history.specs.Zones.{zone_of, question, target_zone, largest_zone, is_clear}
 use Rattle.history.specs.Step.{next_phase}
 
@@ -37,7 +37,7 @@ beyond place front c u up l = let m : (front + c + 1) * u ≤ place * u = mul-le
 pub must_control : (v : Verdict) (front place : ℕ) → Sound v → MustBrake v front place → zone_of v front place ≡ zones.Control
 must_control weak front place s h = refl
 must_control (strong e c) front place s h =
-    let l : place ≤ front + c.control = reach place front c.control e.control.under e.control.over e.control.above (omega arith) (grind arith) in
+    let l : place ≤ front + c.control = reach place front c.control e.control.denominator e.control.numerator e.control.positive (omega arith) (grind arith) in
     grind (arith, nat_tests)
 
 -- In zone control the brake may come on.
@@ -52,17 +52,17 @@ control_may (strong e c) front place s h =
           grind arith in
           absurd (other h')
       | inr le ↦
-          let m : place * e.control.under ≤ front * e.control.under + c.control * e.control.under = up_to place front c.control e.control.under le in
+          let m : place * e.control.denominator ≤ front * e.control.denominator + c.control * e.control.denominator = up_to place front c.control e.control.denominator le in
           omega (arith, s.0.at_most)
     ]
 
 -- In zone clear the brake may be let go.
-pub clear_clear : (v : Verdict) (front place : ℕ) → Sound v → zone_of v front place ≡ zones.Clear → IsClear v front place
-clear_clear weak front place s h = grind arith
-clear_clear (strong e c) front place s h =
+pub clear_may_release : (v : Verdict) (front place : ℕ) → Sound v → zone_of v front place ≡ zones.Clear → MayRelease v front place
+clear_may_release weak front place s h = grind arith
+clear_may_release (strong e c) front place s h =
     elim (cases_lt (front + c.nominal) place) [
       | inl lt ↦
-          let m : front * e.nominal.under + c.nominal * e.nominal.under < place * e.nominal.under = beyond place front c.nominal e.nominal.under e.nominal.above lt in
+          let m : front * e.nominal.denominator + c.nominal * e.nominal.denominator < place * e.nominal.denominator = beyond place front c.nominal e.nominal.denominator e.nominal.positive lt in
           grind arith
       | inr le ↦
           let some : zone_of (strong e c) front place ≡ zones.Clear → ⊥ =

@@ -7,7 +7,7 @@ use Rattle.calls.specs.declared.phase.Phase.TheVariants.{Free}
 use Rattle.calls.specs.declared.record.Record.{Record}
 use Rattle.calls.specs.declared.zone.Zone.TheVariants.{Clear}
 use Rattle.history.specs.History.{History, Section, Target, SectionStands, TargetStands, sample}
-use Rattle.history.specs.Lines.{HasOneGrade, KeepsTheLines, LastAccepted, LastSampleClear, last_phase}
+use Rattle.history.specs.Lines.{HasOneGrade, KeepsTheLines, LastAccepted, LastSampleJustifies, last_phase}
 use Rattle.history.specs.State.{State}
 
 -- The last accepted entry of the history is a sample that answered zone 0.
@@ -34,4 +34,4 @@ pub record Agrees (sheet : Values) (m : Meaning) (h : History) (s : State) : Typ
   pub remembered : LastAnsweredClear h → s.clear ≡ true
   pub answered : s.clear ≡ true → LastAnsweredClear h
   -- and its exact distances then justify a release
-  pub justified : s.clear ≡ true → LastSampleClear sheet m h
+  pub justified : s.clear ≡ true → LastSampleJustifies sheet m h

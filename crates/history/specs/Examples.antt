@@ -22,7 +22,7 @@ use Rattle.history.specs.State.{empty_track, full_capacity, start}
 abbrev pub tenfold : Meaning
 tenfold = record {
   top = 50;
-  deceleration = λ q. record { over = cond (int_lt q.grade (pos 0)) (pos 0) (pos 1000000); under = 1; above = lit< tt };
+  deceleration = λ q. record { numerator = cond (int_lt q.grade (pos 0)) (pos 0) (pos 1000000); denominator = 1; positive = lit< tt };
   verdict = λ q. cond (int_lt q.grade (pos 0)) weak
       (strong (record {
         control = whole (10 * q.speed);

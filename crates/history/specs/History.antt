@@ -106,6 +106,6 @@ GradeAhead h front place g =
 pub record Bound (sheet : Values) (m : Meaning) (h : History) (front speed : ℕ) (t : Target) (q : Question) : Type 0 where
   pub stands : TargetStands sheet h t
   pub asks_speed : q.speed ≡ speed
-  pub asks_target : q.target ≡ t.speed
+  pub asks_target : q.target_speed ≡ t.speed
   pub asks_grade : GradeAhead h front t.place q.grade
   pub binds : Binds m q

@@ -15,7 +15,7 @@ use Rattle.history.specs.History.{History, Target, Accepts, Bound, GradeAhead, W
 abbrev pub LeftAtMost : (front place : ℕ) → Fraction → Type 0
 LeftAtMost front place e = whole place ≼ (whole front ⊕ e)
 
--- The distance left, less one fifty-thousandth of itself, is at most e and 90 mm: 49,999 times it is at most 50,000 times that.
+-- The distance left, less one fifty-thousandth of itself, is at most e + 90 mm: 49,999 times it is at most 50,000 times that.
 abbrev pub LeftNearlyAtMost : (front place : ℕ) → Fraction → Type 0
 LeftNearlyAtMost front place e = whole (49999 * place) ≼ (whole (49999 * front) ⊕ whole 50000 ⊗ (e ⊕ whole 90))
 
@@ -34,9 +34,9 @@ MayBrake weak front place = Unit {0}
 MayBrake (strong exact computed) front place = LeftNearlyAtMost front place exact.control
 
 -- The brake may be let go: not weak, and the exact nominal distance is below the distance left.
-abbrev pub IsClear : Verdict → (front place : ℕ) → Type 0
-IsClear weak front place = ⊥
-IsClear (strong exact computed) front place = LeftAbove front place exact.nominal
+abbrev pub MayRelease : Verdict → (front place : ℕ) → Type 0
+MayRelease weak front place = ⊥
+MayRelease (strong exact computed) front place = LeftAbove front place exact.nominal
 
 -- The phase after a history: the last entry's, and p if it has none.
 abbrev pub last_phase : Phase → History → Phase
@@ -74,8 +74,8 @@ pub record LastAccepted (h before : History) (entry : Record) : Type 0 where
   pub split : h ≡ before ++ entry ∷ after
   pub refused : (b : History) (e : Record) (a : History) → after ≡ b ++ e ∷ a → WasAccepted e.answer → ⊥
 
--- The last accepted call of the history is a sample up to the top speed at which every binding target is clear.
-pub record LastSampleClear (sheet : Values) (m : Meaning) (h : History) : Type 0 where
+-- The last accepted call of the history is a sample up to the top speed at which every binding target lets the brake go.
+pub record LastSampleJustifies (sheet : Values) (m : Meaning) (h : History) : Type 0 where
   pub before : History
   pub entry : Record
   pub last : LastAccepted h before entry
@@ -84,17 +84,17 @@ pub record LastSampleClear (sheet : Values) (m : Meaning) (h : History) : Type 0
   pub sampled : Accepts entry (sample front speed)
   pub not_too_fast : speed ≤ m.top
   -- of the targets that stood when it was taken
-  pub all_clear : (t : Target) (q : Question) → Bound sheet m before front speed t q → IsClear (m.verdict q) front t.place
+  pub all_let_go : (t : Target) (q : Question) → Bound sheet m before front speed t q → MayRelease (m.verdict q) front t.place
 
 -- The brake goes off only by an accepted release after such a sample.
-abbrev pub LetsGoWhenClear : (sheet : Values) → Meaning → History → Record → Type 0
-LetsGoWhenClear sheet m before e = OnAfter before → (On e → ⊥) → Accepts e release × LastSampleClear sheet m before
+abbrev pub LetsGoWhenJustified : (sheet : Values) → Meaning → History → Record → Type 0
+LetsGoWhenJustified sheet m before e = OnAfter before → (On e → ⊥) → Accepts e release × LastSampleJustifies sheet m before
 
 -- The three lines at one entry, with what came before it.
 pub record Lines (sheet : Values) (m : Meaning) (before : History) (e : Record) : Type 0 where
   pub in_time : BrakesInTime sheet m before e
   pub for_a_reason : BrakesForAReason sheet m before e
-  pub when_clear : LetsGoWhenClear sheet m before e
+  pub when_justified : LetsGoWhenJustified sheet m before e
 
 -- A history keeps the three lines at each of its entries.
 abbrev pub KeepsTheLines : (sheet : Values) → Meaning → History → Type 0

@@ -59,15 +59,15 @@ begins_at p xs = has_mark (λ (x : Section). x.place) p xs
 abbrev pub has_number : ℕ → List Target → Bool
 has_number n ts = has_mark (λ (t : Target). t.number) n ts
 
--- The first section, if there is one, begins behind the place.
-abbrev pub first_behind : ℕ → List Section → Bool
-first_behind p [] = true
-first_behind p (x ∷ xs) = nat_lt p x.place
+-- The first section, if there is one, begins further on than the place.
+abbrev pub first_further_on : ℕ → List Section → Bool
+first_further_on p [] = true
+first_further_on p (x ∷ xs) = nat_lt p x.place
 
 -- Each section has a grade within limits, and begins further on than the one before it.
 abbrev pub valid_sections : List Section → Bool
 valid_sections [] = true
-valid_sections (x ∷ xs) = (not (is_unfit x.grade) && first_behind x.place xs) && valid_sections xs
+valid_sections (x ∷ xs) = (not (is_unfit x.grade) && first_further_on x.place xs) && valid_sections xs
 
 -- No two targets have the same number.
 abbrev pub valid_targets : List Target → Bool

@@ -1,7 +1,7 @@
 -- The mission's step: what each call asks, answers and does.
 use Rattle.std.specs.Prelude.{ℕ, ◌+◌, ◌-◌, Bool, false, cond, not, ◌||◌, List, [], ◌∷◌, ◌++◌, Some, None, Ok, Err, Option, ◌==◌, nat_lt}
 use Rattle.place_list.specs.Insertion.{placed_in}
-use Rattle.units.specs.declared.limits.TheConstants.{FASTEST, FURTHEST}
+use Rattle.units.specs.declared.limits.TheConstants.{MAX_SPEED, MAX_PLACE}
 use Rattle.sheet.specs.declared.values.Values.{Values}
 use Rattle.braking.specs.Meaning.{Meaning}
 use Rattle.calls.specs.Answers.{Answer}
@@ -19,10 +19,10 @@ use Rattle.history.specs.Zones.{is_clear, zone}
 
 -- The furthest place, in mm, and the greatest speed that a sample may have, in tenths of km/h.
 abbrev pub max_place : ℕ
-max_place = FURTHEST.millimetres
+max_place = MAX_PLACE.millimetres
 
 abbrev pub max_speed : ℕ
-max_speed = FASTEST.tenths
+max_speed = MAX_SPEED.tenths
 
 -- A ground for refusing, with its refusal.
 pub record Ground : Type 0 where

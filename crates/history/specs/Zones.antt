@@ -30,7 +30,7 @@ zone_of (strong exact c) front place = zone_within c.control c.warning c.nominal
 
 -- The question for a target.
 abbrev pub question : List Section → (front speed : ℕ) → Target → Question
-question xs front speed t = record { speed = speed; target = t.speed; grade = least_grade steepest front t.place xs }
+question xs front speed t = record { speed = speed; target_speed = t.speed; grade = least_grade steepest front t.place xs }
 
 -- The zone of a target at a sample: clear where it does not bind.
 abbrev pub target_zone : Meaning → List Section → (front speed : ℕ) → Target → Zone

@@ -3,7 +3,7 @@
 // Many questions to several maker's brakes, and numbers that make no brake, held to an independent calculation.
 mod cases;
 
-use braking::{BrakingModel, Printed, Question};
+use braking::{BrakingModel, PrintedAnswer, Question};
 use cases::{BRAKES, QUESTIONS, SHEET};
 use constant_brake::{BrakeData, ConstantBrake};
 use sheet::{Admitted, Draft, Rejected};
@@ -49,12 +49,12 @@ fn show_questions(rt: &impl Print, brake: &ConstantBrake) -> io::Result<()> {
     for (speed, target, grade) in &QUESTIONS {
         let question = Question {
             speed: Speed { tenths: *speed },
-            target: Speed { tenths: *target },
+            target_speed: Speed { tenths: *target },
             grade: Grade {
                 thousandths: *grade,
             },
         };
-        let answer = Printed {
+        let answer = PrintedAnswer {
             answer: brake.answer(question),
         };
         println!(rt; "speed={speed} target={target} grade={grade} {answer}")?;

@@ -8,7 +8,7 @@ use calls::{Call, Record};
 use constant_brake::ConstantBrake;
 use place_list::Placed;
 use sheet::{Admitted, Draft};
-use supervision::{Journey, MAX_SECTIONS, MAX_TARGETS, Memory, run};
+use supervision::{MAX_SECTIONS, MAX_TARGETS, Memory, RunOutcome, run};
 
 // Opens the sheet with the brake, makes the calls and closes it. The mission's law holds for this brake, by the contract of run.
 pub(crate) fn drive<const CALLS: usize>(
@@ -28,7 +28,7 @@ pub(crate) fn drive<const CALLS: usize>(
         targets: &mut targets,
     };
     let mut records = [Record::BLANK; CALLS];
-    let Journey {
+    let RunOutcome {
         calls_made: _,
         draft: Draft { values: _ },
     } = run(sheet, brake, memory, &mut records, calls);

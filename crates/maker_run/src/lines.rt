@@ -1,5 +1,5 @@
 use crate::script::{ALLOWED, DISTANCE, POINT, SECTIONS, SHEET};
-use braking::{BrakingModel, Printed, Question};
+use braking::{BrakingModel, PrintedAnswer, Question};
 use calls::{Call, Record};
 use constant_brake::ConstantBrake;
 use session::Shown;
@@ -40,10 +40,10 @@ fn show_question(
     )?;
     let question = Question {
         speed,
-        target: ALLOWED,
+        target_speed: ALLOWED,
         grade,
     };
-    let answer = Printed {
+    let answer = PrintedAnswer {
         answer: brake.answer(question),
     };
     println!(rt; "{answer}")

@@ -11,7 +11,7 @@ pub(crate) const BRAKE: BrakeData = BrakeData {
     top: Speed { tenths: 1_600 },
 };
 
-// The train sheet. Of it the mission takes eps, and the brake tw and ti; the rest is for the railways' own models.
+// The train sheet. Of it the mission takes eps, and the brake tw and ti; the rest is for scmt and etcs.
 pub(crate) const SHEET: Values = Values {
     model: Model::Etcs,
     regime: Regime::Operation,
@@ -49,7 +49,7 @@ pub(crate) const SECTIONS: [Placed<Grade>; 2] = [
     },
 ];
 
-// Where the target is announced, how far behind that it stands, and the speed that it allows.
+// Where the target is announced, how far beyond that it stands, and the speed that it allows.
 pub(crate) const POINT: Distance = Distance {
     millimetres: 200_000,
 };

@@ -3,7 +3,7 @@
 // Runs many missions, each text ended by a byte 1, through the function that the program `mission` calls, and prints what each line is answered.
 
 use calls::Record;
-use input::{MANY_TEXTS, TEXT_END, ended_texts, read_at_most};
+use input::{MAX_BYTES_OF_TEXTS, TEXT_END, ended_texts, read_at_most};
 use place_list::Placed;
 use session::{MAX_BYTES, Shown, answer_text};
 use std::io;
@@ -16,7 +16,7 @@ const SECTION_MEMORY: usize = 70;
 const TARGET_MEMORY: usize = 40;
 
 fn main(rt: HostRuntime) -> io::Result<()> {
-    let texts = read_at_most(rt.alloc(), rt.stdin(), MANY_TEXTS)?;
+    let texts = read_at_most(rt.alloc(), rt.stdin(), MAX_BYTES_OF_TEXTS)?;
     let mut records = vec![in rt.alloc(); Record::BLANK; MAX_BYTES]?;
     let mut shown = vec![in rt.alloc(); Shown::BLANK; MAX_BYTES]?;
     for (i, text) in ended_texts(rt.alloc(), texts.as_slice(), TEXT_END)?
@@ -66,7 +66,7 @@ mod tests {
         b"model=scmt\nregime=E\ntrain=V\nbrake=V\nep=0\nlambda=100\nlength=400\nlfren=LD\nkr=100\ntw=20\nti=30\neps=0\ncall=release\ncall=\ncall=slope place=0 grade=0\ncall=release\ncall=release\n";
 
     // How much is answered, in lists that hold one section and one target.
-    fn answered(records: &mut [Record], shown: &mut [Shown]) -> Option<Answered> {
+    fn answer_in_small_lists(records: &mut [Record], shown: &mut [Shown]) -> Option<Answered> {
         let mut sections = [Placed::<Grade>::default(); 1];
         let mut targets = [Placed::<Target>::default(); 1];
         let memory = Memory {
@@ -83,7 +83,7 @@ mod tests {
         let mut two = [Record::BLANK; 2];
         let mut none = [Record::BLANK; 0];
         assert_eq!(rt;
-            answered(&mut four, &mut shown),
+            answer_in_small_lists(&mut four, &mut shown),
             Some(Answered {
                 lines: 5,
                 calls: 4,
@@ -91,7 +91,7 @@ mod tests {
             })
         );
         assert_eq!(rt;
-            answered(&mut two, &mut shown),
+            answer_in_small_lists(&mut two, &mut shown),
             Some(Answered {
                 lines: 3,
                 calls: 2,
@@ -99,7 +99,7 @@ mod tests {
             })
         );
         assert_eq!(rt;
-            answered(&mut none, &mut shown),
+            answer_in_small_lists(&mut none, &mut shown),
             Some(Answered {
                 lines: 0,
                 calls: 0,
@@ -116,7 +116,7 @@ mod tests {
         let mut two = [Shown::BLANK; 2];
         let mut none = [Shown::BLANK; 0];
         assert_eq!(rt;
-            answered(&mut records, &mut five),
+            answer_in_small_lists(&mut records, &mut five),
             Some(Answered {
                 lines: 5,
                 calls: 4,
@@ -124,7 +124,7 @@ mod tests {
             })
         );
         assert_eq!(rt;
-            answered(&mut records, &mut two),
+            answer_in_small_lists(&mut records, &mut two),
             Some(Answered {
                 lines: 2,
                 calls: 1,
@@ -132,7 +132,7 @@ mod tests {
             })
         );
         assert_eq!(rt;
-            answered(&mut records, &mut none),
+            answer_in_small_lists(&mut records, &mut none),
             Some(Answered {
                 lines: 0,
                 calls: 0,

@@ -32,7 +32,7 @@ fn model_of(values: Values) -> Option<SheetModel> {
 fn show(rt: &impl Print, model: &SheetModel, number: usize, question: Question) -> io::Result<()> {
     print!(rt;
         "{number} {} {} {}",
-        question.speed.tenths, question.target.tenths, question.grade.thousandths
+        question.speed.tenths, question.target_speed.tenths, question.grade.thousandths
     )?;
     // a refusal is printed, and is no error of the program
     let steps = match model.steps(question) {
@@ -41,7 +41,7 @@ fn show(rt: &impl Print, model: &SheetModel, number: usize, question: Question) 
     };
     print!(rt;
         " {} {} {} {}",
-        steps.reaction.ticks, steps.slope.units, steps.reached.steps, steps.net.units
+        steps.reaction.ticks, steps.slope.units, steps.reached.fine_steps, steps.net.units
     )?;
     // the distances are columns, without the names that their `Display` gives
     match steps.answer {
@@ -61,7 +61,7 @@ fn show_speed(rt: &impl Print, model: &SheetModel, number: usize, speed: Speed) 
         for grade in &GRADES {
             let question = Question {
                 speed,
-                target: Speed { tenths: *target },
+                target_speed: Speed { tenths: *target },
                 grade: Grade {
                     thousandths: *grade,
                 },

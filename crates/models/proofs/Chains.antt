@@ -5,10 +5,10 @@ use Rattle.stopping.specs.Factors.{scale_down}
 use Rattle.models.specs.Scaling.{HasValue}
 use Rattle.models.specs.declared.factor.Factor.{Factor}
 
-pub scaled_is : (f : Fraction) (r : Factor) (x y z : ℕ) → HasValue f r → y ≡ x → z ≡ y * r.over / r.under → z ≡ scale_down x f
+pub scaled_is : (f : Fraction) (r : Factor) (x y z : ℕ) → HasValue f r → y ≡ x → z ≡ y * r.numerator / r.denominator → z ≡ scale_down x f
 scaled_is f r x y z is same value =
-    let over = is.over in
-    let under = is.under in
+    let numerator = is.numerator in
+    let denominator = is.denominator in
     cc
 
 -- a factor of 1 changes nothing

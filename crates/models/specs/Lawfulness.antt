@@ -2,7 +2,7 @@
 use Rattle.std.specs.Prelude.{◌≡◌, ℕ, ◌≤◌, Bool, true, List, [], ◌∷◌, nat_lt}
 use Rattle.std.proofs.Common.{le_trans, arith, lit<}
 use Rattle.std.proofs.lemmas.Bool.{cond_both}
-use Rattle.units.specs.declared.limits.TheConstants.{FASTEST}
+use Rattle.units.specs.declared.limits.TheConstants.{MAX_SPEED}
 use Rattle.units.specs.Fractions.{Fraction, whole, ratio, ◌≼◌, ◌≺◌}
 use Rattle.braking.specs.Meaning.{Question, Asked, Binds}
 use Rattle.braking.specs.Laws.{Lawful}
@@ -24,7 +24,7 @@ use Rattle.models.specs.Meanings.{stop_for, meaning_of}
 use Rattle.models.specs.Vl.{vl}
 use Rattle.models.specs.PipeTimes.{reaction_bounded}
 
-pub top_bounded : (m : Model) (r : Regime) → top m r ≤ FASTEST.tenths
+pub top_bounded : (m : Model) (r : Regime) → top m r ≤ MAX_SPEED.tenths
 top_bounded Scmt Operation = omega arith
 top_bounded Scmt Trial = omega arith
 top_bounded Etcs Operation = omega arith
@@ -59,7 +59,7 @@ module _ (m : Model) (v : Values) (valid : admissible v ≡ true) where
   stop_limited q asked binds = record {
     slow = le_trans asked.slow (top_bounded m v.regime);
     target_slow = le_trans asked.target_slow (top_bounded m v.regime);
-    brief = reaction_bounded m v q.speed q.target (limits v valid);
+    brief = reaction_bounded m v q.speed q.target_speed (limits v valid);
     not_steeper_down = slope_not_below q.grade asked.not_below;
     not_steeper_up = slope_not_above q.grade asked.not_above;
     warning_brief = (limits v valid).tw;
@@ -67,7 +67,7 @@ module _ (m : Model) (v : Values) (valid : admissible v ≡ true) where
   }
 
   stop_near : (q : Question) → Asked (top m v.regime) q → Binds (meaning_of m v) q → Near (stop_for m v q).braking (stop_for m v q).rounded
-  stop_near q asked binds = braking_near q.speed q.target (le_trans asked.slow (top_bounded m v.regime))
+  stop_near q asked binds = braking_near q.speed q.target_speed (le_trans asked.slow (top_bounded m v.regime))
 
   pub model_lawful : Lawful (meaning_of m v)
   model_lawful = lawful_by (top m v.regime) (stop_for m v) (top_bounded m v.regime) stop_limited stop_near

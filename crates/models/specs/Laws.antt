@@ -1,5 +1,5 @@
 -- What every model keeps, over every admissible sheet.
-use Rattle.std.specs.Prelude.{◌≡◌, ℕ, ◌-◌, ◌*◌, ◌<◌, ◌≤◌, true}
+use Rattle.std.specs.Prelude.{◌≡◌, ℕ, ◌-◌, ◌*◌, ◌<◌, ◌≤◌, true, nat_lt}
 use Rattle.braking.specs.Laws.{Lawful}
 use Rattle.braking.specs.Meaning.{Question, Asked, Binds}
 use Rattle.sheet.specs.Ranges.{admissible}
@@ -20,7 +20,8 @@ SheetModelKeepsTheLaws = (v : Values) → admissible v ≡ true → Lawful (mean
 pub record UncutFactors (m : Model) (v : Values) (V V0 : ℕ) : Type 0 where
   -- the place in the table of VL
   pub table : 45 ≤ v.lambda
-  -- the factor holds only above VL
+  -- the fading factor holds only above VL
+  pub above_vl : nat_lt (vl v.lambda) V ≡ true → vl v.lambda ≤ V
   pub fading : 21 * (V - vl v.lambda) ≤ 100000
   pub target : 5 * V0 ≤ 100 * V
   pub target_above : 0 < 100 * V
@@ -28,4 +29,4 @@ pub record UncutFactors (m : Model) (v : Values) (V V0 : ℕ) : Type 0 where
 
 -- Nor in any other formula of a question that can be asked and binds.
 abbrev pub NeverCut : Model → Values → Type 0
-NeverCut m v = (q : Question) → Asked (top m v.regime) q → Binds (meaning_of m v) q → Uncut (stop_for m v q) × UncutFactors m v q.speed q.target
+NeverCut m v = (q : Question) → Asked (top m v.regime) q → Binds (meaning_of m v) q → Uncut (stop_for m v q) × UncutFactors m v q.speed q.target_speed

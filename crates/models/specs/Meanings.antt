@@ -13,11 +13,11 @@ use Rattle.models.specs.Formulas.{top, reaction_time, base_deceleration, factors
 abbrev pub stop_for : Model → Values → Question → Stop
 stop_for m v q = record {
   speed = q.speed;
-  target = q.target;
-  reaction = reaction_time m v q.speed q.target;
+  target_speed = q.target_speed;
+  reaction = reaction_time m v q.speed q.target_speed;
   slope = slope_of q.grade;
-  braking = product (whole (base_deceleration v.lambda)) (factors m v q.speed q.target);
-  rounded = product_down (base_deceleration v.lambda) (factors m v q.speed q.target);
+  braking = product (whole (base_deceleration v.lambda)) (factors m v q.speed q.target_speed);
+  rounded = product_down (base_deceleration v.lambda) (factors m v q.speed q.target_speed);
   warning = v.tw;
   hysteresis = v.ti;
 }

@@ -4,5 +4,5 @@ use Rattle.units.specs.Fractions.{Fraction}
 use Rattle.models.specs.declared.factor.Factor.{Factor}
 
 pub record HasValue (f : Fraction) (r : Factor) : Type 0 where
-  pub over : r.over ≡ f.over
-  pub under : r.under ≡ f.under
+  pub numerator : r.numerator ≡ f.numerator
+  pub denominator : r.denominator ≡ f.denominator

@@ -27,7 +27,7 @@ impl AdmissibleValues {
         }
     }
 
-    // The electro-pneumatic brake works.
+    // Whether the electro-pneumatic brake works.
     pub(crate) fn has_ep(&self) -> bool
         ensures { self.now.values.ep ≡ if result then 1 else 0 }
     {

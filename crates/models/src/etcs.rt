@@ -3,8 +3,8 @@ ghost use Rattle.sheet.specs.declared.words.Model.TheVariants.{Etcs as EtcsName}
 use crate::admissible_values::AdmissibleValues;
 use crate::deceleration::{base_deceleration, kr_factor, target_factor};
 use crate::numbers;
-use crate::railway::Railway;
 use crate::rules::Rules;
+use crate::rules_model::RulesModel;
 use crate::share::Share;
 use braking::{Approach, TopSpeed};
 use sheet::Regime;
@@ -16,7 +16,7 @@ use units::{Speed, Time};
 pub struct EtcsRules;
 
 // The ETCS baseline 2 model, with the values of an admitted sheet.
-pub type Etcs = Railway<EtcsRules>;
+pub type Etcs = RulesModel<EtcsRules>;
 
 impl Rules for EtcsRules {
     ghost name = { EtcsName };

@@ -1,6 +1,6 @@
-// The numbers of the two models, but for the top speeds, the table of VL, and the scales of the factors, which stand where they are used.
+// The numbers of the two models. Elsewhere stand the top speeds and the table of VL, with each model's rules, the scales of the factors, in `deceleration.rt`, and the shares of a grade, which every model has, in the crate `stopping`.
 
-use crate::pipe_length::{FillingTime, PipeLength};
+use crate::pipe_length::{PipeLength, PipeTimeRule};
 use crate::pipe_time::PipeTime;
 use crate::share::Share;
 use units::{Speed, Time};
@@ -34,21 +34,25 @@ pub(crate) const GOODS_LENGTH: PipeLength = PipeLength { metres: 1_000 };
 // Whether scmt counts the electro-pneumatic brake.
 pub(crate) const SCMT_EP: bool = false;
 
-// How long the brake pipe takes to fill.
-pub(crate) const PASSENGER_FILLING: FillingTime = FillingTime {
-    empty: PipeTime { micros: 3_500_000 },
-    square_metre: PipeTime { micros: 15 },
+// The pipe time with brake V, and the one that brake M has besides.
+pub(crate) const PASSENGER_PIPE_TIME: PipeTimeRule = PipeTimeRule {
+    fixed: PipeTime {
+        microseconds: 3_500_000,
+    },
+    per_square_metre: PipeTime { microseconds: 15 },
 };
 
-pub(crate) const GOODS_FILLING: FillingTime = FillingTime {
-    empty: PipeTime { micros: 13_500_000 },
-    square_metre: PipeTime { micros: 4 },
+pub(crate) const GOODS_PIPE_TIME: PipeTimeRule = PipeTimeRule {
+    fixed: PipeTime {
+        microseconds: 13_500_000,
+    },
+    per_square_metre: PipeTime { microseconds: 4 },
 };
 
 // The deceleration by lambda: so many hundreds of units for each percent, and so many more.
-pub(crate) const LAMBDA_SLOPE: u64 = 685;
+pub(crate) const HUNDREDS_PER_PERCENT: u64 = 685;
 
-pub(crate) const LAMBDA_REST: u64 = 9_400;
+pub(crate) const HUNDREDS_AT_ZERO: u64 = 9_400;
 
 // How a factor of scmt falls above VL, in hundred-thousandths for a tenth of km/h.
 pub(crate) const FADING: u64 = 21;
@@ -57,6 +61,9 @@ pub(crate) const FADING: u64 = 21;
 pub(crate) const HIGH_SPEED: Speed = Speed { tenths: 1_500 };
 
 pub(crate) const VERY_HIGH_SPEED: Speed = Speed { tenths: 2_600 };
+
+// The third factor at speed 0, in ten-thousandths; each tenth of km/h adds one more.
+pub(crate) const HIGH_SPEED_BASE: u64 = 8_500;
 
 // The fourth factor, in hundredths.
 pub(crate) const VERY_HIGH_SPEED_SHARE: u64 = 80;

@@ -13,12 +13,12 @@ pub(crate) struct PipeLength {
     ghost short: { metres ≤ 1000 },
 }
 
-// How long a pipe takes to carry the braking to its end: as long as an empty one, and more for each square metre of its length squared.
+// How long a brake pipe takes to carry the braking to its end: a fixed time, and more for each square metre of the square of its length.
 #[derive(Clone, Copy, Debug, PartialEq, Eq)]
-pub(crate) struct FillingTime {
-    pub(crate) empty: PipeTime,
-    pub(crate) square_metre: PipeTime,
-    ghost bounded: { empty.micros + 1000000 * square_metre.micros ≤ 18500000 },
+pub(crate) struct PipeTimeRule {
+    pub(crate) fixed: PipeTime,
+    pub(crate) per_square_metre: PipeTime,
+    ghost bounded: { fixed.microseconds + 1000000 * per_square_metre.microseconds ≤ 18500000 },
 }
 
 impl PipeLength {
@@ -36,32 +36,33 @@ impl PipeLength {
         }
     }
 
-    // The length that the braking has to fill: none where the electro-pneumatic brake works, which calls for it along the whole train at once.
-    fn length_to_fill(self, ep: bool) -> PipeLength
+    // The length that counts: none where the electro-pneumatic brake works, which calls for the braking along the whole train at once.
+    fn length_counted(self, ep: bool) -> PipeLength
         ensures { result.metres ≡ self.metres * (1 - (if ep then 1 else 0)) }
     {
         if ep { PipeLength { metres: 0 } } else { self }
     }
 
-    // The time that the pipe takes to fill.
-    fn filling_time(self, rule: FillingTime) -> PipeTime
-        ensures { result.micros ≡ rule.empty.micros + rule.square_metre.micros * (self.metres * self.metres) }
+    // The time of a pipe of this length by a rule.
+    fn time_by(self, rule: PipeTimeRule) -> PipeTime
+        ensures { result.microseconds ≡ rule.fixed.microseconds + rule.per_square_metre.microseconds * (self.metres * self.metres) }
     {
         PipeTime {
-            micros: rule.empty.micros + rule.square_metre.micros * (self.metres * self.metres),
+            microseconds: rule.fixed.microseconds
+                + rule.per_square_metre.microseconds * (self.metres * self.metres),
         }
     }
 
     // The time until the pipe has carried the braking to its end.
     pub(crate) fn braking_time(self, brake: Service, ep: bool) -> PipeTime
-        ensures { result.micros ≡ pipe_time_by brake self.metres (if ep then 1 else 0) }
+        ensures { result.microseconds ≡ pipe_time_by brake self.metres (if ep then 1 else 0) }
     {
         let passenger = self
-            .length_to_fill(ep)
-            .filling_time(numbers::PASSENGER_FILLING);
+            .length_counted(ep)
+            .time_by(numbers::PASSENGER_PIPE_TIME);
         match brake {
             Service::Passenger => passenger,
-            Service::Goods => passenger.max(self.filling_time(numbers::GOODS_FILLING)),
+            Service::Goods => passenger.max(self.time_by(numbers::GOODS_PIPE_TIME)),
         }
     }
 }

@@ -6,17 +6,17 @@ use units::Time;
 // A time of the brake pipe in millionths of a second, at most 18.5 s.
 #[derive(Clone, Copy, Debug, PartialEq, Eq, PartialOrd, Ord)]
 pub(crate) struct PipeTime {
-    pub(crate) micros: u64,
-    ghost bounded: { micros ≤ 18500000 },
+    pub(crate) microseconds: u64,
+    ghost bounded: { microseconds ≤ 18500000 },
 }
 
 impl PipeTime {
     // A share of the time, with nothing rounded: a hundredth of a millionth of a second is a tick.
-    pub(crate) fn share(self, share: Share) -> Time
-        ensures { result.ticks ≡ share.hundredths * self.micros }
+    pub(crate) fn times(self, share: Share) -> Time
+        ensures { result.ticks ≡ share.hundredths * self.microseconds }
     {
         Time {
-            ticks: share.hundredths * self.micros,
+            ticks: share.hundredths * self.microseconds,
         }
     }
 }

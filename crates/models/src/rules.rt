@@ -10,7 +10,7 @@ use sheet::Regime;
 use stopping::BrakeDeceleration;
 use units::Time;
 
-// What one railway's rules say differently from another's.
+// What differs between the rules of scmt and those of etcs.
 pub trait Rules {
     ghost name: { Model };
 
@@ -23,7 +23,7 @@ pub trait Rules {
 
     // The share of the pipe time that is counted.
     fn pipe_share(sheet: &AdmissibleValues, approach: Approach) -> Share
-        ensures { result.hundredths ≡ pipe_share name sheet.now.values approach.speed approach.target };
+        ensures { result.hundredths ≡ pipe_share name sheet.now.values approach.speed approach.target_speed };
 
     // How long the equipment takes to call for the brake.
     fn delay() -> Time
@@ -31,5 +31,5 @@ pub trait Rules {
 
     // What the brake does by itself: the factors one after the other, each product rounded down.
     fn brake_deceleration(sheet: &AdmissibleValues, approach: Approach) -> BrakeDeceleration
-        ensures { result.units ≡ product_down (base_deceleration sheet.now.values.lambda) (factors name sheet.now.values approach.speed approach.target) };
+        ensures { result.units ≡ product_down (base_deceleration sheet.now.values.lambda) (factors name sheet.now.values approach.speed approach.target_speed) };
 }

@@ -7,11 +7,11 @@ use crate::deceleration::{
     base_deceleration, fading_factor, high_speed_factor, kr_factor, target_factor,
     very_high_speed_factor,
 };
+use crate::near_target::scmt_share;
 use crate::numbers;
-use crate::railway::Railway;
 use crate::rules::Rules;
+use crate::rules_model::RulesModel;
 use crate::share::Share;
-use crate::shares::scmt_share;
 use braking::{Approach, TopSpeed};
 use sheet::Regime;
 use stopping::BrakeDeceleration;
@@ -22,7 +22,7 @@ use units::{Speed, Time};
 pub struct ScmtRules;
 
 // The Italian SCMT model, with the values of an admitted sheet.
-pub type Scmt = Railway<ScmtRules>;
+pub type Scmt = RulesModel<ScmtRules>;
 
 // VL in tenths of km/h, at lambda 45, 50 and so on up to 160.
 const FADING_SPEEDS: [u16; 24] = [
@@ -30,13 +30,13 @@ const FADING_SPEEDS: [u16; 24] = [
     1372, 1396, 1420, 1443, 1466, 1488, 1510, 1531,
 ];
 
-// VL at a place of the table.
-fn entry_at(place: u16) -> Speed
-    requires { place < 24 }
-    ensures { result.tenths ≡ slice_index entries place }
+// VL at an index of the table.
+fn fading_speed_at(index: u16) -> Speed
+    requires { index < 24 }
+    ensures { result.tenths ≡ slice_index entries index }
 {
     Speed {
-        tenths: u64::from(FADING_SPEEDS[usize::from(place)]),
+        tenths: u64::from(FADING_SPEEDS[usize::from(index)]),
     }
 }
 
@@ -46,11 +46,11 @@ impl AdmissibleValues {
         ensures value { result.tenths ≡ vl self.now.values.lambda }
         ensures rule { Greatest self.now.values.lambda result.tenths }
     {
-        entry_at((self.values.lambda - 45) / 5)
+        fading_speed_at((self.values.lambda - 45) / 5)
     }
 }
 
-impl Railway<ScmtRules> {
+impl RulesModel<ScmtRules> {
     // VL, the speed above which the brake fades: 161.7 times lambda to the 0.443, in tenths of km/h and rounded down.
     pub fn fading_speed(&self) -> Speed
         ensures value { result.tenths ≡ vl self.now.sheet.values.lambda }

@@ -6,5 +6,5 @@ mod width;
 mod writing;
 
 pub use reading::read_number;
-pub use width::digits_of;
+pub use width::digit_count;
 pub use writing::write_number;

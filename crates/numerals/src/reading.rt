@@ -9,6 +9,7 @@ use crate::digit::digit_value;
 const MAX_DIGITS: usize = 10;
 
 // The number that the bytes write in decimal: 1 to `max_digits` digits and never more than 10, with a 0 in front only as 0 itself. All else is `None`.
+// A private function reads and promises `digits` alone; the other clauses follow from that one, whatever its code.
 pub fn read_number(bytes: &[u8], max_digits: usize) -> Option<u64>
     ensures read { NumberRead max_digits bytes.now result }
     ensures digits { PlainRead max_digits bytes.now result }

@@ -3,10 +3,11 @@ ghost use Rattle.numerals.specs.Writing.{EndsWithin, NumberWritten};
 ghost use Rattle.numerals.specs.Laws.{WrittenIsRead};
 
 use crate::digit::last_digit;
-use crate::width::digits_of;
+use crate::width::digit_count;
 
 // Writes the decimal digits of the number from the byte `at` on and answers the byte behind the last one. The bytes before and behind them stay.
 // Where the digits do not fit it answers `None` and alters nothing.
+// A private function writes and promises `written` alone; that what was written is read back follows for any that does.
 pub fn write_number(out: &mut [u8], at: usize, number: u64) -> Option<usize>
     ensures written { NumberWritten out.old at number out.new result }
     ensures read_back { WrittenIsRead }
@@ -17,7 +18,7 @@ pub fn write_number(out: &mut [u8], at: usize, number: u64) -> Option<usize>
 fn write_fitting(out: &mut [u8], at: usize, number: u64) -> Option<usize>
     ensures { NumberWritten out.old at number out.new result }
 {
-    let end = end_within(out.len(), at, digits_of(number))?;
+    let end = end_within(out.len(), at, digit_count(number))?;
     put_digits(out, at, end, number);
     Some(end)
 }

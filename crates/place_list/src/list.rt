@@ -10,8 +10,7 @@ mod removal;
 
 use crate::placed::Placed;
 
-// Items in memory that the caller lends, in the order of their places.
-// It is no `Vec`, since a mission uses no heap. It has no `Model`, since the contracts speak of the room, the loan and the memory behind the items too.
+// Items in memory that the caller lends, in the order of their places; at the same place they stand in the order in which they came. No heap is used.
 #[derive(Drop)]
 pub struct PlaceList<'a, T> {
     memory: &'a mut [Placed<T>],

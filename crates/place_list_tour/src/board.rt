@@ -1,14 +1,14 @@
 use place_list::Keyed;
 
 // A board that shows a speed, in tenths of km/h.
-#[derive(Clone, Copy, Debug, PartialEq, Eq, Hash)]
+#[derive(Clone, Copy, Debug, PartialEq, Eq)]
 pub struct Board {
     pub number: u64,
     pub tenths: u16,
 }
 
 impl Keyed for Board {
-    ghost number = { λ b. b.number };
+    ghost key_number = { λ b. b.number };
 
     fn key(&self) -> u64 {
         self.number

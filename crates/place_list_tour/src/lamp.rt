@@ -7,7 +7,7 @@ mod colour;
 pub use colour::Lamp;
 
 impl Keyed for Lamp {
-    ghost number = { λ l. lamp_number l };
+    ghost key_number = { λ l. lamp_number l };
 
     fn key(&self) -> u64 {
         *self as u64

@@ -112,5 +112,5 @@ pub(crate) fn lend<'a, T: Copy>(memory: &'a mut [Placed<T>], new: Placed<T>) -> 
 {
     let mut list = PlaceList::new(memory, 1);
     let _ = list.insert(new);
-    list.give_up()
+    list.into_memory()
 }

@@ -1,5 +1,5 @@
 -- Line by line: the lines answered so far, with their records and what is shown of them.
-use Rattle.std.proofs.Common.{◌≡◌, ℕ, Bool, ◌+◌, ◌-◌, ◌<◌, ◌≤◌, List, [], ◌∷◌, ◌++◌, length, drop, set, take, Ok, Err, sym, refl, ap, ◌∙◌, subst, arith}
+use Rattle.std.proofs.Common.{◌≡◌, ℕ, ◌+◌, ◌<◌, ◌≤◌, List, [], ◌∷◌, ◌++◌, length, drop, set, take, Ok, Err, sym, refl, ap, ◌∙◌, subst, arith}
 use Rattle.std.proofs.lemmas.List.{drop-set-lt, length-append, length-set, take_more_set}
 use Rattle.braking.specs.Meaning.{Meaning}
 use Rattle.calls.specs.declared.call.Call.{Call}
@@ -10,10 +10,10 @@ use Rattle.call_text.specs.declared.call_fault.CallFault.{CallFault}
 use Rattle.history.specs.Lines.{last_phase}
 use Rattle.history.proofs.Splits.{last_push}
 use Rattle.supervision.proofs.Follows.{Followed, follow_more}
-use Rattle.supervision.specs.Missions.{Made, sheet_of, state_of}
+use Rattle.supervision.specs.Missions.{Made}
 use Rattle.supervision.specs.declared.lists.Lists.{Lists}
 use Rattle.supervision.specs.declared.mission.Mission.{Mission}
-use Rattle.session.specs.Answers.{AnswersLines, Ends, Shows, of_fault, of_record}
+use Rattle.session.specs.Answers.{Shows, of_fault, of_record}
 use Rattle.session.specs.Lines.{Line, ReadsTo, calls_of}
 use Rattle.session.specs.declared.shown.Shown.{Shown}
 
@@ -111,8 +111,3 @@ module _ {M : Type 0} (meaning : M → Meaning) (first last : Mission M) (ls ls'
         records_left = λ i l. drop-set-lt i records k r (omega arith) ∙ w.records_left i (omega arith);
         shown_left = λ i l. drop-set-lt i shown n s (omega arith) ∙ w.shown_left i (omega arith);
       }
-
-  -- the run ends here
-  pub finished : (ended : Bool) → Ends ended rest (length records - k) (length shown - n) →
-      AnswersLines (sheet_of first) (meaning first.model) (state_of first ls) text (record { lines = n; calls = k; ended = ended }) records shown
-  finished ended e = record { lines = w.lines; rest = rest; read = w.read; ends = e; lines_all = w.lines_all; calls_all = w.calls_all; history = w.followed.records; shows = w.shows }

@@ -5,6 +5,6 @@ pub struct Answered {
     pub lines: usize,
     // how many of these are calls, each of which left a record
     pub calls: usize,
-    // whether these are all its lines, and not only as many as there was room for
+    // whether the run ended with the text, and not where no room was left; a line with no line feed in reach takes in all that is left
     pub ended: bool,
 }

@@ -21,7 +21,7 @@ use supervision::{Lists, Memory, Mission};
 pub const MAX_BYTES: usize = 65_536;
 
 // Runs the mission of a text: its first twelve lines are a train sheet, the others are call lines, whose calls are made in turn over the model that the sheet names.
-// Gives how many lines were answered, with what is shown of each and each call's record at the start of the lent memory; or, where the text has no sheet, its first fault, and then nothing is altered.
+// Gives how many lines were answered, with what is shown of each and each call's record at the start of the lent memory; or, where the text has no sheet, its first fault, and then neither the records nor what is shown is altered.
 // The run ends with the text, or at the first line for which no room is left: for what is shown of it, or for its record.
 pub fn answer_text(
     text: &[u8],
@@ -49,7 +49,7 @@ pub fn answer_text(
     Ok(answered)
 }
 
-// Makes the calls of a text's lines in turn, as long as there is room. A line with a fault leaves the mission as it is.
+// Makes the calls of a text's lines in turn, as long as there is room. A line with a fault leaves the mission as it is; one with no line feed in reach is the last, whatever stands behind it.
 fn answer_lines<M: BrakingModel>(
     mission: &mut Mission<M>,
     lists: &mut Lists<'_>,
@@ -66,23 +66,12 @@ fn answer_lines<M: BrakingModel>(
     let mut lines = 0;
     let mut calls = 0;
     let mut rest = text;
-    while !rest.is_empty() {
-        if lines == shown.len() {
-            return Answered {
-                lines,
-                calls,
-                ended: false,
-            };
-        }
+    while !rest.is_empty() && lines < shown.len() {
         let line = read_call(rest);
         shown[lines] = match line.call {
             Ok(call) => {
                 if calls == records.len() {
-                    return Answered {
-                        lines,
-                        calls,
-                        ended: false,
-                    };
+                    break;
                 }
                 let record = mission.apply(lists, call);
                 records[calls] = record;
@@ -97,6 +86,6 @@ fn answer_lines<M: BrakingModel>(
     Answered {
         lines,
         calls,
-        ended: true,
+        ended: rest.is_empty(),
     }
 }

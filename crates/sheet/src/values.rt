@@ -5,9 +5,9 @@ use crate::words::{LengthChoice, Model, Regime, Service};
 pub struct Values {
     pub model: Model,
     pub regime: Regime,
-    // what the train is made up as
+    // a passenger train or a goods train
     pub train: Service,
-    // what its brake is set for
+    // for which of the two its brake is set
     pub brake: Service,
     // whether the electro-pneumatic brake works, 0 or 1; a draft may hold any number here, which admitting refuses
     pub ep: u16,

@@ -30,5 +30,5 @@ layer_word ValueLayer = codes "value"
 layer_word SheetLayer = codes "sheet"
 
 -- What is printed of a fault, whatever was read.
-abbrev pub answer_text : (number byte : ℕ) → Layer → List ℕ
-answer_text n b layer = codes "answer=" ++ (decimal n ++ (codes " byte=" ++ (decimal b ++ (codes " layer=" ++ layer_word layer))))
+abbrev pub fault_text : (number byte : ℕ) → Layer → List ℕ
+fault_text n b layer = codes "answer=" ++ (decimal n ++ (codes " byte=" ++ (decimal b ++ (codes " layer=" ++ layer_word layer))))

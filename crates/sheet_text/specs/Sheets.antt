@@ -20,11 +20,11 @@ use Rattle.std.specs.List.{AllByRecursion}
 
 -- A sheet with one entry put in.
 abbrev pub with_entry : Entry → Values → Values
-with_entry (OfModel x) v = record { model = x; regime = v.regime; train = v.train; brake = v.brake; ep = v.ep; lambda = v.lambda; length = v.length; lfren = v.lfren; kr = v.kr; tw = v.tw; ti = v.ti; eps = v.eps }
-with_entry (OfRegime x) v = record { model = v.model; regime = x; train = v.train; brake = v.brake; ep = v.ep; lambda = v.lambda; length = v.length; lfren = v.lfren; kr = v.kr; tw = v.tw; ti = v.ti; eps = v.eps }
-with_entry (OfTrain x) v = record { model = v.model; regime = v.regime; train = x; brake = v.brake; ep = v.ep; lambda = v.lambda; length = v.length; lfren = v.lfren; kr = v.kr; tw = v.tw; ti = v.ti; eps = v.eps }
-with_entry (OfBrake x) v = record { model = v.model; regime = v.regime; train = v.train; brake = x; ep = v.ep; lambda = v.lambda; length = v.length; lfren = v.lfren; kr = v.kr; tw = v.tw; ti = v.ti; eps = v.eps }
-with_entry (OfLfren x) v = record { model = v.model; regime = v.regime; train = v.train; brake = v.brake; ep = v.ep; lambda = v.lambda; length = v.length; lfren = x; kr = v.kr; tw = v.tw; ti = v.ti; eps = v.eps }
+with_entry (OfModel x) v = record v { model = x }
+with_entry (OfRegime x) v = record v { regime = x }
+with_entry (OfTrain x) v = record v { train = x }
+with_entry (OfBrake x) v = record v { brake = x }
+with_entry (OfLfren x) v = record v { lfren = x }
 with_entry (OfNumber k n) v = with_number k n v
 
 -- Entries put in one after the other.

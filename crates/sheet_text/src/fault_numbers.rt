@@ -1,5 +1,5 @@
 ghost use Rattle.std.specs.Prelude.{◌≡◌, Some};
-ghost use Rattle.sheet_text.specs.Faults.{answer_text, fault_byte, layer_of, layer_word, number};
+ghost use Rattle.sheet_text.specs.Faults.{fault_text, fault_byte, layer_of, layer_word, number};
 
 use crate::faults::SheetFault;
 use crate::layer::Layer;
@@ -30,7 +30,7 @@ impl SheetFault {
         }
     }
 
-    // The reader that the fault belongs to.
+    // What the fault is about.
     pub fn layer(self) -> Layer
         ensures { result ≡ layer_of self }
     {
@@ -66,7 +66,7 @@ impl fmt::Display for Layer {
 
 // A fault prints as its number, byte and layer.
 impl fmt::Display for SheetFault {
-    ghost output = { λ fault. Some (answer_text (number fault) (fault_byte fault) (layer_of fault)) };
+    ghost output = { λ fault. Some (fault_text (number fault) (fault_byte fault) (layer_of fault)) };
 
     fn fmt<W: fmt::Write>(&self, f: &mut fmt::Formatter<W>) -> fmt::Result {
         write!(

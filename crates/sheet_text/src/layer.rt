@@ -1,7 +1,7 @@
-// Which of the readers a fault belongs to.
+// What a fault is about.
 #[derive(Clone, Copy, Debug, PartialEq, Eq)]
 pub enum Layer {
-    // lines, keys and the forms of values
+    // a line, a key, or the form of a value
     Text,
     // the range of a value
     Value,

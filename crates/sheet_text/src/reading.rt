@@ -123,6 +123,7 @@ fn check_brake(values: Values) -> Result<(), SheetFault>
 }
 
 // The draft that a text is the sheet of, or the first fault. A text is taken exactly where it is the text of a sheet that can be admitted.
+// `read_draft` reads and promises `answers` alone; the other clauses follow from that one.
 pub fn read_sheet(text: &[u8]) -> Result<Draft, SheetFault>
     ensures answers { SheetAnswers text.now result }
     ensures exactly { (v : Values) → IsText text.now v → IsTaken v result }

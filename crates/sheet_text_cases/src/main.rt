@@ -1,7 +1,7 @@
 #![tactic(auto)]
 
 // Reads many texts, each ended by a byte 1, as train sheets, and prints what is answered to each.
-use input::{MANY_TEXTS, TEXT_END, ended_texts, read_at_most};
+use input::{MAX_BYTES_OF_TEXTS, TEXT_END, ended_texts, read_at_most};
 use sheet::Draft;
 use sheet_text::read_sheet;
 use std::io;
@@ -17,7 +17,7 @@ fn show(rt: &impl Print, text: &[u8]) -> io::Result<()> {
 }
 
 fn main(rt: HostRuntime) -> io::Result<()> {
-    let texts = read_at_most(rt.alloc(), rt.stdin(), MANY_TEXTS)?;
+    let texts = read_at_most(rt.alloc(), rt.stdin(), MAX_BYTES_OF_TEXTS)?;
     for text in ended_texts(rt.alloc(), texts.as_slice(), TEXT_END)?.as_slice() {
         show(&rt, text)?;
     }

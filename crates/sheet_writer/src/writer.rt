@@ -6,7 +6,6 @@ use numerals::write_number;
 use sheet_text::{Entry, Key, Word};
 
 // Memory that is written, and the byte that is written next.
-// Not an `io::Cursor`, whose contract does not say that the memory it writes to stays the one that was lent.
 #[derive(Drop)]
 pub(crate) struct Writer<'a> {
     pub(crate) out: &'a mut [u8],

@@ -3,7 +3,7 @@ use Rattle.std.proofs.Common.{◌≡◌, ℕ, suc, ◌+◌, ◌*◌, ◌<◌, �
 use Rattle.std.proofs.lemmas.Int.{ints}
 use Rattle.units.specs.Rounding.{Floored}
 use Rattle.units.proofs.Quotients.{rounded_up, is_ceiling}
-use Rattle.stopping.specs.Stops.{Stop, Limited, natural, target_steps, speed_reached, speed_reached_up}
+use Rattle.stopping.specs.Stops.{Stop, Limited, natural, target_fine_steps, speed_reached, speed_reached_up}
 
 pub natural_at_most : (z : ℤ) (n : ℕ) → z ≤ℤ pos n → natural z ≤ n
 natural_at_most (pos a) n h = omega (arith, ints)
@@ -30,7 +30,7 @@ not_far_ahead : (v r : ℕ) (x q : ℤ) → Floored x 250000000000 q → pos r �
 not_far_ahead v r x (pos n) f h = omega (arith, ints, f.greatest)
 not_far_ahead v r x (negsuc n) f h = omega (arith, ints, f.greatest)
 
-module _ (s : Stop) (q : ℤ) (r : ℕ) (f : Floored (pos (9 * s.reaction) *ℤ s.slope) 250000000000 q) (reaches : 1000 * s.target ≤ r) (least : (pos (1000 * s.speed) -ℤ q) ≤ℤ pos r) (either : (pos r ≡ pos (1000 * s.speed) -ℤ q) ⊎ (r ≡ 1000 * s.target)) where
+module _ (s : Stop) (q : ℤ) (r : ℕ) (f : Floored (pos (9 * s.reaction) *ℤ s.slope) 250000000000 q) (reaches : 1000 * s.target_speed ≤ r) (least : (pos (1000 * s.speed) -ℤ q) ≤ℤ pos r) (either : (pos r ≡ pos (1000 * s.speed) -ℤ q) ⊎ (r ≡ 1000 * s.target_speed)) where
   rest : ℤ
   rest = pos (250000000000 * (1000 * s.speed)) -ℤ (pos (9 * s.reaction) *ℤ s.slope)
 
@@ -38,7 +38,7 @@ module _ (s : Stop) (q : ℤ) (r : ℕ) (f : Floored (pos (9 * s.reaction) *ℤ 
   unfolding rest
   up_to = natural_at_most rest (r * 250000000000) (ahead s.speed r (pos (9 * s.reaction) *ℤ s.slope) q f least)
 
-  close : r * 250000000000 < max (250000000000 * target_steps s) (natural rest) + 250000000000
+  close : r * 250000000000 < max (250000000000 * target_fine_steps s) (natural rest) + 250000000000
   unfolding rest
   close = elim either [
     | inl is ↦ omega (arith, ints, not_far_ahead s.speed r (pos (9 * s.reaction) *ℤ s.slope) q f is, natural_at_least rest)
@@ -47,9 +47,9 @@ module _ (s : Stop) (q : ℤ) (r : ℕ) (f : Floored (pos (9 * s.reaction) *ℤ 
 
   pub is_reached_up : r ≡ speed_reached_up s
   unfolding speed_reached_up speed_reached rest
-  is_reached_up = is_ceiling (max (250000000000 * target_steps s) (natural rest)) 250000000000 r (omega arith) (record { reaches = omega (arith, up_to); least = close })
+  is_reached_up = is_ceiling (max (250000000000 * target_fine_steps s) (natural rest)) 250000000000 r (omega arith) (record { reaches = omega (arith, up_to); least = close })
 
-pub reached_not_below : (s : Stop) → 1000 * s.target * (speed_reached s).under ≤ (speed_reached s).over
+pub reached_not_below : (s : Stop) → 1000 * s.target_speed * (speed_reached s).denominator ≤ (speed_reached s).numerator
 unfolding speed_reached
 reached_not_below s = omega arith
 
@@ -59,5 +59,5 @@ reached_up_bounded s h =
     let z : ℤ = pos (250000000000 * (1000 * s.speed)) -ℤ (pos (9 * s.reaction) *ℤ s.slope) in
     let low = loss_not_below s.reaction s.slope h.brief h.not_steeper_down in
     let n : natural z ≤ 1226800000000000000 = natural_at_most z 1226800000000000000 (omega (arith, ints, h.slow)) in
-    let up = rounded_up (max (250000000000 * target_steps s) (natural z)) 250000000000 (omega arith) in
+    let up = rounded_up (max (250000000000 * target_fine_steps s) (natural z)) 250000000000 (omega arith) in
     omega (arith, up.least, h.slow, h.target_slow)

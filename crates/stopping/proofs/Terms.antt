@@ -7,27 +7,27 @@ use Rattle.braking.specs.Laws.{Within}
 
 pub sum_within : {s t e f : Fraction} {c d : ℕ} → Within s e c → Within t f d → Within (s ⊕ t) (e ⊕ f) (c + d)
 sum_within {s} {t} {e} {f} {c} {d} h k = record {
-  at_least = omega (arith, mul-le-mul_right f.under h.at_least, mul-le-mul_right e.under k.at_least);
-  at_most = omega (arith, mul-le-mul_right (f.under * t.under) h.at_most, mul-le-mul_right (e.under * s.under) k.at_most);
+  at_least = omega (arith, mul-le-mul_right f.denominator h.at_least, mul-le-mul_right e.denominator k.at_least);
+  at_most = omega (arith, mul-le-mul_right (f.denominator * t.denominator) h.at_most, mul-le-mul_right (e.denominator * s.denominator) k.at_most);
 }
 
 pub within_more : {s e : Fraction} {c : ℕ} (t : Fraction) → s ≼ t → Within s e c → Within t e c
 within_more {s} {e} {c} t h k = record {
   at_least = k.at_least;
-  at_most = le_of_mul-le-mul_left {k = s.under} (omega (arith, mul-le-mul_right t.under k.at_most, mul-le-mul_right e.under h)) s.above;
+  at_most = le_of_mul-le-mul_left {k = s.denominator} (omega (arith, mul-le-mul_right t.denominator k.at_most, mul-le-mul_right e.denominator h)) s.positive;
 }
 
 -- n / m, however the fraction e writes it, within s hundredths of a mm, from products with no fraction in them
-products_within : (s n m c : ℕ) (e : Fraction) → e.over ≡ n → e.under ≡ m → n ≤ c * m → 4999900 * (c * m) ≤ 50000 * (100 * n + s * m) → Within (ratio s 100) e c
+products_within : (s n m c : ℕ) (e : Fraction) → e.numerator ≡ n → e.denominator ≡ m → n ≤ c * m → 4999900 * (c * m) ≤ 50000 * (100 * n + s * m) → Within (ratio s 100) e c
 products_within s n m c e is-n is_m low high = record { at_least = rw (is-n, is_m) (omega arith); at_most = rw (is-n, is_m) (omega arith) }
 
 -- k b / m, where B is b rounded up and c is k B / m rounded up
-pub speed_term : (b : Fraction) (B k m s c : ℕ) → RoundedUp b.over b.under B → RoundedUp (k * B) m c → 100 * (k + m) ≤ s * m →
-    (e : Fraction) → e.over ≡ k * b.over → e.under ≡ b.under * m → Within (ratio s 100) e c
+pub speed_term : (b : Fraction) (B k m s c : ℕ) → RoundedUp b.numerator b.denominator B → RoundedUp (k * B) m c → 100 * (k + m) ≤ s * m →
+    (e : Fraction) → e.numerator ≡ k * b.numerator → e.denominator ≡ b.denominator * m → Within (ratio s 100) e c
 speed_term b B k m s c up whole-up slack e is-n is_m =
-    products_within s (k * b.over) (b.under * m) c e is-n is_m
-    (omega (arith, mul-le-mul_left k up.reaches, mul-le-mul_right b.under whole-up.reaches))
-    (omega (arith, mul-le-mul_left k (le_of_lt up.least), mul-le-mul_right b.under (le_of_lt whole-up.least), mul-le-mul_right b.under slack))
+    products_within s (k * b.numerator) (b.denominator * m) c e is-n is_m
+    (omega (arith, mul-le-mul_left k up.reaches, mul-le-mul_right b.denominator whole-up.reaches))
+    (omega (arith, mul-le-mul_left k (le_of_lt up.least), mul-le-mul_right b.denominator (le_of_lt whole-up.least), mul-le-mul_right b.denominator slack))
 
 -- for n ≤ x ≤ n + m the squares of n and x are near
 square_near : (n m x : ℕ) → n ≤ x → x ≤ n + m → x * x ≤ n * n + 2 * (x * m)
@@ -59,18 +59,18 @@ braking_near q u Q B dn dd D c near B-most DLeast little high =
     le_of_mul-le-mul_left times-D (omega arith)
 
 -- 625 (b² - v²) / (162 d), where B is b rounded up, D is less than 9 under d, and c is the same of B and D rounded up
-pub braking_term : (b : Fraction) (B v : ℕ) (d : Fraction) (D c : ℕ) → RoundedUp b.over b.under B → B ≤ 5000000 → v * b.under ≤ b.over → v ≤ B →
-    D * d.under ≤ d.over → d.over < (D + 9) * d.under → 500000 ≤ D → RoundedUp (625 * (B * B - v * v)) (162 * D) c →
-    (e : Fraction) → e.over ≡ 625 * (b.over * b.over - v * v * (b.under * b.under)) * d.under → e.under ≡ 162 * d.over * (b.under * b.under) → Within (ratio 7817 100) e c
+pub braking_term : (b : Fraction) (B v : ℕ) (d : Fraction) (D c : ℕ) → RoundedUp b.numerator b.denominator B → B ≤ 5000000 → v * b.denominator ≤ b.numerator → v ≤ B →
+    D * d.denominator ≤ d.numerator → d.numerator < (D + 9) * d.denominator → 500000 ≤ D → RoundedUp (625 * (B * B - v * v)) (162 * D) c →
+    (e : Fraction) → e.numerator ≡ 625 * (b.numerator * b.numerator - v * v * (b.denominator * b.denominator)) * d.denominator → e.denominator ≡ 162 * d.numerator * (b.denominator * b.denominator) → Within (ratio 7817 100) e c
 braking_term b B v d D c up B-most slower slower_up down close DLeast whole-up e is-n is_m =
-    let q : ℕ = b.over * b.over - v * v * (b.under * b.under) in
+    let q : ℕ = b.numerator * b.numerator - v * v * (b.denominator * b.denominator) in
     let Q : ℕ = B * B - v * v in
-    let no_stop : v * v * (b.under * b.under) ≤ b.over * b.over = omega (arith, mul-le-mul slower slower) in
-    let is-q : q + v * v * (b.under * b.under) ≡ b.over * b.over = sub-add_cancel no_stop in
+    let no_stop : v * v * (b.denominator * b.denominator) ≤ b.numerator * b.numerator = omega (arith, mul-le-mul slower slower) in
+    let is-q : q + v * v * (b.denominator * b.denominator) ≡ b.numerator * b.numerator = sub-add_cancel no_stop in
     let is-Q : Q + v * v ≡ B * B = sub-add_cancel (mul-le-mul slower_up slower_up) in
-    let q-up = difference_reaches b.over b.under B v q Q up.reaches is-q is-Q in
-    let q-near = difference_near b.over b.under B v q Q up.reaches (le_of_lt up.least) is-q is-Q in
-    let little = little_more D d.over d.under DLeast close in
+    let q-up = difference_reaches b.numerator b.denominator B v q Q up.reaches is-q is-Q in
+    let q-near = difference_near b.numerator b.denominator B v q Q up.reaches (le_of_lt up.least) is-q is-Q in
+    let little = little_more D d.numerator d.denominator DLeast close in
     products_within 7817 _ _ c e is-n is_m
-    (braking_reaches q _ Q d.over d.under D c q-up down whole-up.reaches)
-    (braking_near q _ Q B d.over d.under D c q-near B-most DLeast little (le_of_lt whole-up.least))
+    (braking_reaches q _ Q d.numerator d.denominator D c q-up down whole-up.reaches)
+    (braking_near q _ Q B d.numerator d.denominator D c q-near B-most DLeast little (le_of_lt whole-up.least))

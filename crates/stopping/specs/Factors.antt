@@ -9,14 +9,14 @@ product x (f ∷ fs) = product (x ⊗ f) fs
 
 -- One product rounded down.
 abbrev pub scale_down : ℕ → Fraction → ℕ
-scale_down y f = y * f.over / f.under
+scale_down y f = y * f.numerator / f.denominator
 
 -- The product, rounded down after each factor.
 abbrev pub product_down : ℕ → List Fraction → ℕ
 product_down y [] = y
 product_down y (f ∷ fs) = product_down (scale_down y f) fs
 
--- y is at most x, and x is at most y and l.
+-- y is at most x, and x is at most y + l.
 pub record Loses (l x : Fraction) (y : ℕ) : Type 0 where
   pub at_most : whole y ≼ x
   pub no_less : x ≼ whole y ⊕ l
@@ -31,7 +31,7 @@ pub data Bounded : List Fraction → List Fraction → Type 0 where
   none : Bounded [] []
   more : {f bound : Fraction} {fs bounds : List Fraction} → f ≼ bound → Bounded fs bounds → Bounded (f ∷ fs) (bound ∷ bounds)
 
--- One more factor f of at most bound: what was lost grows by at most the bound, and 1.
+-- One more factor f of at most bound: what was lost before is multiplied by at most the bound, and rounding down loses 1 more.
 abbrev pub FactorLoses : Type 0
 FactorLoses = (l x f bound : Fraction) (y : ℕ) → f ≼ bound → Loses l x y → Loses (l ⊗ bound ⊕ whole 1) (x ⊗ f) (scale_down y f)
 

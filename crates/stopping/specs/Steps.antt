@@ -2,7 +2,7 @@
 use Rattle.std.specs.Prelude.{◌≡◌, ℕ, Ok, Err, Result}
 use Rattle.units.specs.Fractions.{Fraction}
 use Rattle.braking.specs.Meaning.{Question, Asked, Binds}
-use Rattle.braking.specs.Answers.{Due, Says}
+use Rattle.braking.specs.Answers.{RefusalDue, Says}
 use Rattle.braking.specs.declared.refusal.Refusal.{Refusal}
 use Rattle.stopping.specs.Meanings.{meaning_by}
 use Rattle.stopping.specs.Stops.{Stop, speed_reached_up, net, verdict}
@@ -13,7 +13,7 @@ use Rattle.stopping.specs.declared.steps.Steps.{Steps}
 abbrev pub stop_of : StopStruct → Fraction → Stop
 stop_of s exact = record {
   speed = s.speed.tenths;
-  target = s.target.tenths;
+  target_speed = s.target_speed.tenths;
   reaction = s.reaction.time.ticks;
   slope = s.slope.units;
   braking = exact;
@@ -30,11 +30,11 @@ HasNumbersOf stop s = stop_of s stop.braking ≡ stop
 pub record AreStepsOf (s : Stop) (r : Steps) : Type 0 where
   pub reaction : r.reaction.ticks ≡ s.reaction
   pub slope : r.slope.units ≡ s.slope
-  pub reached : r.reached.steps ≡ speed_reached_up s
+  pub reached : r.reached.fine_steps ≡ speed_reached_up s
   pub net : r.net.units ≡ net s
   pub answer : Says (verdict s) r.answer
 
 -- The steps of a question, or why it is turned down, by the top speed and the stop that each question is worked out from.
 abbrev pub GivesSteps : (top : ℕ) → (Question → Stop) → Question → Result Steps Refusal → Type 0
 GivesSteps top stop q (Ok r) = Asked top q × Binds (meaning_by top stop) q × AreStepsOf (stop q) r
-GivesSteps top stop q (Err e) = Due (meaning_by top stop) q e
+GivesSteps top stop q (Err e) = RefusalDue (meaning_by top stop) q e

@@ -3,7 +3,7 @@ use Rattle.std.specs.Prelude.{ℕ, ◌+◌, ◌-◌, ◌*◌, ◌≤◌, max, if
 use Rattle.std.proofs.Common.{lit<}
 use Rattle.std.proofs.Math.Nat.{le-add_right}
 use Rattle.units.proofs.Sums.{sum_at_least}
-use Rattle.units.specs.declared.limits.TheConstants.{FASTEST}
+use Rattle.units.specs.declared.limits.TheConstants.{MAX_SPEED}
 use Rattle.units.specs.Fractions.{Fraction, SignedFraction, whole, ratio, ◌≼◌, ◌≺◌, ◌⊕◌, ◌⊖◌, ◌⊗◌, ◌⊘◌}
 use Rattle.units.specs.Rounding.{ceiling}
 use Rattle.braking.specs.Meaning.{Verdict, ExactDistances, ComputedDistances, weak, strong}
@@ -12,7 +12,7 @@ use Rattle.braking.specs.Meaning.{Verdict, ExactDistances, ComputedDistances, we
 pub record Stop : Type 0 where
   -- V and V0, in tenths of km/h
   pub speed : ℕ
-  pub target : ℕ
+  pub target_speed : ℕ
   -- T, in ticks
   pub reaction : ℕ
   -- G, in units
@@ -30,8 +30,8 @@ natural (pos n) = n
 natural (negsuc n) = 0
 
 -- V0 in fine steps.
-abbrev pub target_steps : Stop → ℕ
-target_steps s = 1000 * s.target
+abbrev pub target_fine_steps : Stop → ℕ
+target_fine_steps s = 1000 * s.target_speed
 
 -- 1,000 V - 9 G T / 250,000,000,000, times 250,000,000,000.
 abbrev pub speed_left : Stop → ℤ
@@ -39,19 +39,19 @@ speed_left s = pos (250000000000 * (1000 * s.speed)) -ℤ (pos (9 * s.reaction) 
 
 -- b, in fine steps: the larger of 1,000 V0 and 1,000 V - 9 G T / 250,000,000,000.
 unfoldable pub speed_reached : Stop → Fraction
-speed_reached s = record { over = max (250000000000 * target_steps s) (natural (speed_left s)); under = 250000000000; above = lit< tt }
+speed_reached s = record { numerator = max (250000000000 * target_fine_steps s) (natural (speed_left s)); denominator = 250000000000; positive = lit< tt }
 
 -- B: b rounded up.
 unfoldable pub speed_reached_up : Stop → ℕ
 unfolding speed_reached
-speed_reached_up s = ceiling (speed_reached s).over (speed_reached s).under
+speed_reached_up s = ceiling (speed_reached s).numerator (speed_reached s).denominator
 
 -- d, in units: the exact deceleration of brake and slope together.
 unfoldable pub net_exact : Stop → SignedFraction
 net_exact s = record {
-  over = pos s.braking.over +ℤ (pos s.braking.under *ℤ s.slope);
-  under = s.braking.under;
-  above = s.braking.above;
+  numerator = pos s.braking.numerator +ℤ (pos s.braking.denominator *ℤ s.slope);
+  denominator = s.braking.denominator;
+  positive = s.braking.positive;
 }
 
 -- D: the same from the rounded one.
@@ -73,10 +73,10 @@ lead_distance t b = whole t ⊗ b ⊗ ratio 1 360
 -- d where it is above 0, as it is wherever there are distances.
 unfoldable pub net_positive : Stop → Fraction
 unfolding net_exact
-net_positive s = record { over = natural (net_exact s).over; under = (net_exact s).under; above = (net_exact s).above }
+net_positive s = record { numerator = natural (net_exact s).numerator; denominator = (net_exact s).denominator; positive = (net_exact s).positive }
 
 unfoldable pub exact_control : Stop → Fraction
-exact_control s = reaction_distance s.reaction (speed_reached s) ⊕ braking_distance (speed_reached s) (target_steps s) (net_positive s)
+exact_control s = reaction_distance s.reaction (speed_reached s) ⊕ braking_distance (speed_reached s) (target_fine_steps s) (net_positive s)
 
 abbrev pub exact_warning : Stop → Fraction
 exact_warning s = exact_control s ⊕ lead_distance s.warning (speed_reached s)
@@ -101,7 +101,7 @@ abbrev pub computed_lead : (t B : ℕ) → ℕ
 computed_lead t B = ceiling (t * B) 360
 
 abbrev pub computed_control : Stop → ℕ
-computed_control s = computed_reaction s.reaction (speed_reached_up s) + computed_braking (speed_reached_up s) (target_steps s) (natural (net s))
+computed_control s = computed_reaction s.reaction (speed_reached_up s) + computed_braking (speed_reached_up s) (target_fine_steps s) (natural (net s))
 
 abbrev pub computed_warning : Stop → ℕ
 computed_warning s = computed_control s + computed_lead s.warning (speed_reached_up s)
@@ -121,8 +121,8 @@ verdict s = if int_lt (net s) (pos 500000) then weak else strong (exact_distance
 
 -- The limits within which the computed distances are close to the exact ones.
 pub record Limited (s : Stop) : Type 0 where
-  pub slow : s.speed ≤ FASTEST.tenths
-  pub target_slow : s.target ≤ FASTEST.tenths
+  pub slow : s.speed ≤ MAX_SPEED.tenths
+  pub target_slow : s.target_speed ≤ MAX_SPEED.tenths
   pub brief : s.reaction ≤ 6000000000
   pub not_steeper_down : negsuc 4199999 ≤ℤ s.slope
   pub not_steeper_up : s.slope ≤ℤ pos 4200000

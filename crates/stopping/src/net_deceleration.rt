@@ -15,10 +15,10 @@ pub(crate) struct NetDeceleration {
 impl NetDeceleration {
     // The distance from the speed reached down to the target speed, rounded up.
     pub(crate) fn braking_distance(self, reached: SpeedReached, target: FineSpeed) -> Distance
-        requires { target.steps ≤ reached.speed.steps }
-        ensures { result.millimetres ≡ computed_braking reached.speed.steps target.steps (natural self.deceleration.units) }
+        requires { target.fine_steps ≤ reached.speed.fine_steps }
+        ensures { result.millimetres ≡ computed_braking reached.speed.fine_steps target.fine_steps (natural self.deceleration.units) }
     {
-        let (from, to) = (reached.speed.steps, target.steps);
+        let (from, to) = (reached.speed.fine_steps, target.fine_steps);
         // by the square that the speed has to lose over twice the deceleration; 625 and 162 turn fine steps and units into mm
         let millimetres = quotient_up(
             625 * (from * from - to * to),

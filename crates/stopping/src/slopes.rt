@@ -21,8 +21,8 @@ const LEVEL: Grade = Grade { thousandths: 0 };
 
 const GENTLE: Grade = Grade { thousandths: -20 };
 
-// What a hundredth of a thousandth of grade does, in units: gravity is 9.81 m/s².
-const HUNDREDTH: i64 = 981;
+// What gravity, 9.81 m/s², does along a hundredth of a thousandth of grade, in units of deceleration.
+const UNITS_PER_HUNDREDTH: i64 = 981;
 
 // A grade by the share of it that is counted on, in hundredths of a thousandth.
 #[derive(Clone, Copy)]
@@ -33,7 +33,7 @@ struct CountedGrade {
 }
 
 // The share of a grade that is counted on.
-fn share(grade: Grade) -> GradeShare
+fn share_of(grade: Grade) -> GradeShare
     ensures { result.hundredths ≡ pos (share_of grade.thousandths) }
 {
     if grade > LEVEL {
@@ -50,11 +50,11 @@ fn by_gravity(counted: CountedGrade) -> Deceleration
     ensures { result.units ≡ counted.hundredths *ℤ pos 981 }
 {
     Deceleration {
-        units: counted.hundredths * HUNDREDTH,
+        units: counted.hundredths * UNITS_PER_HUNDREDTH,
     }
 }
 
-// What the grade adds to the deceleration, below zero downhill: 981 units for a thousandth and a hundredth of its share.
+// What gravity adds to the deceleration, in units, below zero downhill: the grade times the share of it that is counted on, in hundredths, times 981.
 pub fn slope(approach: Approach) -> Deceleration
     ensures value { result.units ≡ slope_of approach.grade }
     ensures not_below { negsuc 4199999 ≤ℤ result.units }
@@ -62,6 +62,6 @@ pub fn slope(approach: Approach) -> Deceleration
 {
     let grade = approach.grade();
     by_gravity(CountedGrade {
-        hundredths: share(grade).hundredths * grade.thousandths,
+        hundredths: share_of(grade).hundredths * grade.thousandths,
     })
 }

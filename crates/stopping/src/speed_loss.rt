@@ -1,10 +1,10 @@
 ghost use Rattle.std.specs.Prelude.{pos, negsuc, ◌≤ℤ◌};
 ghost use Rattle.units.specs.Rounding.{Floored};
 
-use units::{Divisor, quotient_floor};
+use units::{Divisor, signed_quotient_down};
 
 // How many parts of an `ExactLoss` make a fine step.
-const PARTS: Divisor = Divisor {
+const PARTS_PER_FINE_STEP: Divisor = Divisor {
     value: 250_000_000_000,
 };
 
@@ -19,18 +19,18 @@ pub(crate) struct ExactLoss {
 // The same in whole fine steps.
 #[derive(Clone, Copy, Debug, PartialEq, Eq)]
 pub(crate) struct SpeedLoss {
-    pub(crate) steps: i64,
-    ghost not_below: { negsuc 907199 ≤ℤ steps },
-    ghost not_above: { steps ≤ℤ pos 907200 },
+    pub(crate) fine_steps: i64,
+    ghost not_below: { negsuc 907199 ≤ℤ fine_steps },
+    ghost not_above: { fine_steps ≤ℤ pos 907200 },
 }
 
 impl ExactLoss {
     // Rounded down, so that a gain is rounded up.
     pub(crate) fn in_fine_steps(self) -> SpeedLoss
-        ensures { Floored self.parts 250000000000 result.steps }
+        ensures { Floored self.parts 250000000000 result.fine_steps }
     {
         SpeedLoss {
-            steps: quotient_floor(self.parts, PARTS),
+            fine_steps: signed_quotient_down(self.parts, PARTS_PER_FINE_STEP),
         }
     }
 }

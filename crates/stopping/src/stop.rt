@@ -1,5 +1,5 @@
 ghost use Rattle.std.specs.Prelude.{◌≤◌, pos, negsuc, ◌≤ℤ◌};
-ghost use Rattle.units.specs.declared.limits.TheConstants.{FASTEST};
+ghost use Rattle.units.specs.declared.limits.TheConstants.{MAX_SPEED};
 
 use crate::brake_deceleration::BrakeDeceleration;
 use crate::lead_times::LeadTimes;
@@ -11,15 +11,15 @@ use units::{Deceleration, Speed};
 pub struct Stop {
     pub speed: Speed,
     // not necessarily below the speed
-    pub target: Speed,
+    pub target_speed: Speed,
     pub reaction: ReactionTime,
     // what the slope does, below zero downhill
     pub slope: Deceleration,
     // what the brake does, rounded down
     pub braking: BrakeDeceleration,
     pub lead: LeadTimes,
-    ghost slow: { speed.tenths ≤ FASTEST.tenths },
-    ghost target_slow: { target.tenths ≤ FASTEST.tenths },
+    ghost slow: { speed.tenths ≤ MAX_SPEED.tenths },
+    ghost target_slow: { target_speed.tenths ≤ MAX_SPEED.tenths },
     ghost not_steeper_down: { negsuc 4199999 ≤ℤ slope.units },
     ghost not_steeper_up: { slope.units ≤ℤ pos 4200000 },
 }

@@ -24,8 +24,8 @@ fn is_weak(net: Deceleration) -> bool
 }
 
 impl Stop {
-    // The steps of the stop. Whatever exact deceleration the brake's rounded one is near, the answer is the verdict on it and keeps the laws of a braking model.
-    // A deceleration that is a product of factors, rounded down after each, is near by what the factors lose.
+    // The steps of the stop. The struct holds the brake's deceleration rounded down, and not the exact one that it came from; so the clauses speak of every exact one.
+    // `steps` says which numbers are computed. Of each exact deceleration that the rounded one is near, `lawful` says that the distances keep within the margin of a braking model, and `uncut` that nothing is cut off the exact formulas. `factors` says how near a product of factors is that was rounded down after each.
     pub fn steps(&self) -> Steps
         ensures steps { (exact : Fraction) → AreStepsOf (stop_of self.now exact) result }
         ensures lawful { (exact : Fraction) → Near exact self.now.braking.units → LawfulStop (stop_of self.now exact) }
@@ -59,7 +59,7 @@ impl Stop {
         braking + self.slope
     }
 
-    // What the slope takes off the speed until the brake acts.
+    // What the slope takes off the speed until the brake acts: its deceleration times the reaction time. One unit for one tick is 9 parts of a fine step.
     fn exact_loss(&self) -> ExactLoss
         ensures { result.parts ≡ pos (9 * self.now.reaction.time.ticks) *ℤ self.now.slope.units }
     {
@@ -69,38 +69,38 @@ impl Stop {
     }
 
     // The target speed in fine steps.
-    fn target_speed(&self) -> FineSpeed
-        ensures { result.steps ≡ 1000 * self.now.target.tenths }
+    fn target_fine_speed(&self) -> FineSpeed
+        ensures { result.fine_steps ≡ 1000 * self.now.target_speed.tenths }
     {
         FineSpeed {
-            steps: 1000 * self.target.tenths,
+            fine_steps: 1000 * self.target_speed.tenths,
         }
     }
 
     // The speed when the brake acts, rounded up, and never below the target speed.
     fn speed_reached(&self) -> SpeedReached
-        ensures value { result.speed.steps ≡ speed_reached_up (stop_of self.now (whole 0)) }
-        ensures reaches { 1000 * self.now.target.tenths ≤ result.speed.steps }
+        ensures value { result.speed.fine_steps ≡ speed_reached_up (stop_of self.now (whole 0)) }
+        ensures reaches { 1000 * self.now.target_speed.tenths ≤ result.speed.fine_steps }
     {
         // signed, since uphill a slow train may come to a stand before the brake acts
-        let left = 1000 * (self.speed.tenths as i64) - self.exact_loss().in_fine_steps().steps;
-        let target = self.target_speed().steps as i64;
+        let left = 1000 * (self.speed.tenths as i64) - self.exact_loss().in_fine_steps().fine_steps;
+        let target = self.target_fine_speed().fine_steps as i64;
         SpeedReached {
             speed: FineSpeed {
-                steps: left.max(target) as u64,
+                fine_steps: left.max(target) as u64,
             },
         }
     }
 
     // The three distances from the speed reached, each of their terms rounded up.
     fn distances(&self, reached: SpeedReached, net: NetDeceleration) -> Distances
-        requires { 1000 * self.now.target.tenths ≤ reached.speed.steps }
-        ensures control { result.control.millimetres ≡ computed_reaction self.now.reaction.time.ticks reached.speed.steps + computed_braking reached.speed.steps (1000 * self.now.target.tenths) (natural net.deceleration.units) }
-        ensures warning { result.warning.millimetres ≡ result.control.millimetres + computed_lead self.now.lead.warning.tenths reached.speed.steps }
-        ensures nominal { result.nominal.millimetres ≡ result.warning.millimetres + computed_lead self.now.lead.hysteresis.tenths reached.speed.steps }
+        requires { 1000 * self.now.target_speed.tenths ≤ reached.speed.fine_steps }
+        ensures control { result.control.millimetres ≡ computed_reaction self.now.reaction.time.ticks reached.speed.fine_steps + computed_braking reached.speed.fine_steps (1000 * self.now.target_speed.tenths) (natural net.deceleration.units) }
+        ensures warning { result.warning.millimetres ≡ result.control.millimetres + computed_lead self.now.lead.warning.tenths reached.speed.fine_steps }
+        ensures nominal { result.nominal.millimetres ≡ result.warning.millimetres + computed_lead self.now.lead.hysteresis.tenths reached.speed.fine_steps }
     {
         let reaction = reached.reaction_distance(self.reaction);
-        let braking = net.braking_distance(reached, self.target_speed());
+        let braking = net.braking_distance(reached, self.target_fine_speed());
         let control = reaction + braking;
         let warning = control + reached.lead_distance(self.lead.warning);
         let nominal = warning + reached.lead_distance(self.lead.hysteresis);

@@ -26,15 +26,15 @@ judged : (m : Meaning) (q : Question) (r : Result (Option Distances) Refusal) (f
     judged_zone r front place ≡ cond (binds m q) (zone_of (m.verdict q) front place) Clear
 judged m q (Ok a) front place w slow fit = rw w.1 (said (m.verdict q) a front place w.2)
 judged m q (Err TooFast) front place w slow fit =
-    let free : binds m q ≡ false = le-ltb q.target q.speed (grind arith) in
+    let free : binds m q ≡ false = le-ltb q.target_speed q.speed (grind arith) in
     rw free
 judged m q (Err GradeOutOfLimits) front place w slow fit = absurd (grind arith)
 judged m q (Err NotBinding) front place w slow fit = rw w.1
 
 -- So the zone of a target is what its question is judged as.
 pub judged_target : (m : Meaning) (xs : List Section) (front speed : ℕ) (t : Target) (grade : ℤ) (r : Result (Option Distances) Refusal) → grade ≡ least_grade steepest front t.place xs →
-    Answered m (record { speed = speed; target = t.speed; grade = grade }) r → speed ≤ m.top → valid_sections xs ≡ true → judged_zone r front t.place ≡ target_zone m xs front speed t
+    Answered m (record { speed = speed; target_speed = t.speed; grade = grade }) r → speed ≤ m.top → valid_sections xs ≡ true → judged_zone r front t.place ≡ target_zone m xs front speed t
 judged_target m xs front speed t grade r e w slow v =
     judged m (question xs front speed t) r front t.place
-    (subst (λ (k : ℤ). Answered m (record { speed = speed; target = t.speed; grade = k }) r) e w) slow
+    (subst (λ (k : ℤ). Answered m (record { speed = speed; target_speed = t.speed; grade = k }) r) e w) slow
     (least_fit steepest front t.place xs refl (valid_fit xs v))

@@ -4,9 +4,9 @@ ghost use Rattle.history.specs.Step.{max_place};
 ghost use Rattle.supervision.specs.Placing.{Placing};
 
 use sheet::Values;
-use units::{Distance, Divisor, FURTHEST, quotient_up};
+use units::{Distance, Divisor, MAX_PLACE, quotient_up};
 
-// Where a target stands that is announced at a distance from a point: the sheet's eps percent of the distance nearer, that share rounded up to a mm.
+// Where a target stands that is announced at a distance from a point: the sheet's eps percent of the distance nearer, a share that is rounded up to a mm.
 // None where the point, the distance or their sum is beyond the furthest place.
 pub fn target_place(point: Distance, distance: Distance, sheet: &Values) -> Option<Distance>
     ensures { Placing sheet.now point.millimetres distance.millimetres result }
@@ -14,20 +14,20 @@ pub fn target_place(point: Distance, distance: Distance, sheet: &Values) -> Opti
     let end = point
         .millimetres
         .checked_add(distance.millimetres)
-        .filter(|end| *end <= FURTHEST.millimetres)?;
+        .filter(|end| *end <= MAX_PLACE.millimetres)?;
     Some(Distance {
-        millimetres: end.saturating_sub(cut(distance, sheet.eps).millimetres),
+        millimetres: end.saturating_sub(eps_share(distance, sheet).millimetres),
     })
 }
 
-// eps percent of the distance, rounded up.
-fn cut(distance: Distance, eps: u16) -> Distance
+// The sheet's eps percent of the distance, rounded up.
+fn eps_share(distance: Distance, sheet: &Values) -> Distance
     requires { distance.millimetres ≤ max_place }
-    ensures { result.millimetres ≡ ceiling (distance.millimetres * eps) 100 }
+    ensures { result.millimetres ≡ ceiling (distance.millimetres * sheet.now.eps) 100 }
 {
     Distance {
         millimetres: quotient_up(
-            distance.millimetres * u64::from(eps),
+            distance.millimetres * u64::from(sheet.eps),
             Divisor { value: 100 },
         ),
     }

@@ -1,11 +1,11 @@
 #![tactic(auto)]
 
 mod announced;
-mod journey;
 mod limits;
 mod lists;
 mod memory;
 mod mission;
+mod run_outcome;
 mod running;
 mod sampled;
 mod stretch;
@@ -13,10 +13,10 @@ mod target;
 mod zones;
 
 pub use announced::target_place;
-pub use journey::Journey;
 pub use lists::Lists;
 pub use memory::{MAX_SECTIONS, MAX_TARGETS, Memory};
 pub use mission::Mission;
+pub use run_outcome::RunOutcome;
 pub use running::run;
 pub use sampled::Sampled;
 pub use stretch::Stretch;

@@ -5,16 +5,16 @@ ghost use Rattle.history.specs.Step.{first, limits};
 ghost use Rattle.supervision.specs.Limits.{refusal_in};
 
 use calls::Refusal;
-use units::{Distance, FASTEST, FURTHEST, Grade, STEEPEST_FALL, STEEPEST_RISE, Speed};
+use units::{Distance, Grade, MAX_PLACE, MAX_SPEED, Speed};
 
 // Whether a section's place and grade are within limits.
 pub(crate) fn check_slope(place: Distance, grade: Grade) -> Result<(), Refusal>
     ensures { (m : Meaning) → first (limits m (Slope place grade)) ≡ refusal_in result }
 {
-    if place > FURTHEST {
+    if place > MAX_PLACE {
         return Err(Refusal::PlaceOutOfLimits);
     }
-    if !(STEEPEST_FALL..=STEEPEST_RISE).contains(&grade) {
+    if !grade.is_within_limits() {
         return Err(Refusal::GradeOutOfLimits);
     }
     Ok(())
@@ -24,10 +24,10 @@ pub(crate) fn check_slope(place: Distance, grade: Grade) -> Result<(), Refusal>
 pub(crate) fn check_sample(place: Distance, speed: Speed) -> Result<(), Refusal>
     ensures { (m : Meaning) → first (limits m (Sample place speed)) ≡ refusal_in result }
 {
-    if place > FURTHEST {
+    if place > MAX_PLACE {
         return Err(Refusal::PlaceOutOfLimits);
     }
-    if speed > FASTEST {
+    if speed > MAX_SPEED {
         return Err(Refusal::TooFast);
     }
     Ok(())

@@ -54,13 +54,13 @@ impl<'a> Lists<'a> {
     }
 
     // The memory goes back to the caller, with the items at the start of each part.
-    pub fn give_up(self) -> Memory<'a>
+    pub fn into_memory(self) -> Memory<'a>
         ensures { LentBy result self.entry }
     {
         let Lists { sections, targets } = self;
         Memory {
-            sections: sections.give_up(),
-            targets: targets.give_up(),
+            sections: sections.into_memory(),
+            targets: targets.into_memory(),
         }
     }
 

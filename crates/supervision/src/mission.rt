@@ -1,8 +1,8 @@
 mod applying;
 mod closing;
-mod entering;
+mod list_calls;
+mod next_phase;
 mod opening;
-mod placing;
 mod releasing;
 mod sampling;
 
@@ -10,7 +10,7 @@ use calls::Phase;
 use sheet::Admitted;
 
 // An open mission under one braking model. It is moved and never copied: it was opened, and it is closed.
-// Its lists stand beside it and go with each of its calls. That they are its own is the caller's to see to: a call says what it does with whatever lists it is given, and its law speaks of the lists that agree with the history.
+// Its lists stand beside it and go with each of its calls. Give each call the lists that `open` gave with this mission: those of another are not told apart, and the law says nothing of them.
 pub struct Mission<M> {
     model: M,
     sheet: Admitted,

@@ -5,10 +5,10 @@ ghost use Rattle.history.specs.State.{start};
 ghost use Rattle.supervision.specs.Lists.{opened_track};
 ghost use Rattle.supervision.specs.Missions.{SameTrain, sheet_of, state_of};
 
-use crate::journey::Journey;
 use crate::lists::Lists;
 use crate::memory::Memory;
 use crate::mission::Mission;
+use crate::run_outcome::RunOutcome;
 use braking::BrakingModel;
 use calls::{Call, Record};
 use sheet::Admitted;
@@ -21,7 +21,7 @@ pub fn run<M: BrakingModel + Drop>(
     memory: Memory<'_>,
     records: &mut [Record],
     calls: &[Call],
-) -> Journey
+) -> RunOutcome
     ensures calls_made { result.calls_made ≡ min (length records.old) (length calls.now) }
     ensures calls { map (λ e. e.call) (take result.calls_made records.new) ≡ take result.calls_made calls.now }
     ensures history { take result.calls_made records.new ≡ run sheet.values (M.BrakingModel.meaning model) (start (opened_track memory.entry)) (take result.calls_made calls.now) }
@@ -32,7 +32,7 @@ pub fn run<M: BrakingModel + Drop>(
 {
     let (mut mission, mut lists) = Mission::open(sheet, model, memory);
     let calls_made = make_calls(&mut mission, &mut lists, records, calls);
-    Journey {
+    RunOutcome {
         calls_made,
         draft: mission.close(),
     }

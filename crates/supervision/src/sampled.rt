@@ -1,7 +1,7 @@
 use calls::{Phase, Zone};
 
 // What an accepted sample answers: the phase after it, and its zone.
-#[derive(Clone, Copy, Debug, PartialEq, Eq, Hash)]
+#[derive(Clone, Copy, Debug, PartialEq, Eq)]
 pub struct Sampled {
     pub phase: Phase,
     pub zone: Zone,

@@ -16,7 +16,7 @@ pub struct Stretch {
 }
 
 impl Stretch {
-    // The distance left, none once the place is passed.
+    // The distance from the front to the place, 0 mm once the place is passed.
     pub fn distance_left(self) -> Distance
         ensures { result.millimetres ≡ self.place.millimetres - self.front.millimetres }
     {

@@ -67,7 +67,7 @@ impl<'a, M: BrakingModel> Train<'a, M> {
         };
         let question = Question {
             speed: self.speed,
-            target: target.item.speed,
+            target_speed: target.item.speed,
             grade: stretch.grade_ahead(self.sections),
         };
         judged_zone(self.model.answer(question), stretch)

@@ -8,42 +8,42 @@ infixl 70 ◌⊗◌ ◌⊘◌
 infix 50 ◌≼◌ ◌≺◌ ◌≈◌
 -- A whole number at or above 0, over a whole number above 0.
 pub record Fraction : Type 0 where
-  pub over : ℕ
-  pub under : ℕ
-  pub above : 0 < under
+  pub numerator : ℕ
+  pub denominator : ℕ
+  pub positive : 0 < denominator
 
 -- n / m. It is asked only of an m above 0; at 0 it stands for n / 1.
 abbrev pub ratio : ℕ → ℕ → Fraction
-ratio n m = record { over = n; under = max 1 m; above = le-max_left 1 m }
+ratio n m = record { numerator = n; denominator = max 1 m; positive = le-max_left 1 m }
 
 abbrev pub whole : ℕ → Fraction
-whole n = record { over = n; under = 1; above = lit< tt }
+whole n = record { numerator = n; denominator = 1; positive = lit< tt }
 
 abbrev pub ◌≼◌ : Fraction → Fraction → Type 0
-a ≼ b = a.over * b.under ≤ b.over * a.under
+a ≼ b = a.numerator * b.denominator ≤ b.numerator * a.denominator
 
 abbrev pub ◌≺◌ : Fraction → Fraction → Type 0
-a ≺ b = a.over * b.under < b.over * a.under
+a ≺ b = a.numerator * b.denominator < b.numerator * a.denominator
 
 abbrev pub ◌≈◌ : Fraction → Fraction → Type 0
-a ≈ b = a.over * b.under ≡ b.over * a.under
+a ≈ b = a.numerator * b.denominator ≡ b.numerator * a.denominator
 
 abbrev pub ◌⊕◌ : Fraction → Fraction → Fraction
-a ⊕ b = record { over = a.over * b.under + b.over * a.under; under = a.under * b.under; above = mul-pos a.above b.above }
+a ⊕ b = record { numerator = a.numerator * b.denominator + b.numerator * a.denominator; denominator = a.denominator * b.denominator; positive = mul-pos a.positive b.positive }
 
 -- The difference; it is asked only of a b that is at most a, and elsewhere is 0.
 abbrev pub ◌⊖◌ : Fraction → Fraction → Fraction
-a ⊖ b = record { over = a.over * b.under - b.over * a.under; under = a.under * b.under; above = mul-pos a.above b.above }
+a ⊖ b = record { numerator = a.numerator * b.denominator - b.numerator * a.denominator; denominator = a.denominator * b.denominator; positive = mul-pos a.positive b.positive }
 
 abbrev pub ◌⊗◌ : Fraction → Fraction → Fraction
-a ⊗ b = record { over = a.over * b.over; under = a.under * b.under; above = mul-pos a.above b.above }
+a ⊗ b = record { numerator = a.numerator * b.numerator; denominator = a.denominator * b.denominator; positive = mul-pos a.positive b.positive }
 
 -- The quotient; it is asked only of a b above 0.
 abbrev pub ◌⊘◌ : Fraction → Fraction → Fraction
-a ⊘ b = ratio (a.over * b.under) (a.under * b.over)
+a ⊘ b = ratio (a.numerator * b.denominator) (a.denominator * b.numerator)
 
 -- A whole number of either sign, over a whole number above 0.
 pub record SignedFraction : Type 0 where
-  pub over : ℤ
-  pub under : ℕ
-  pub above : 0 < under
+  pub numerator : ℤ
+  pub denominator : ℕ
+  pub positive : 0 < denominator

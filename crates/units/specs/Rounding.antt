@@ -15,7 +15,7 @@ pub record RoundedUp (a b r : ℕ) : Type 0 where
   pub reaches : a ≤ r * b
   pub least : r * b < a + b
 
--- r is a / b rounded down: r is at most that, and r and 1 are not.
+-- r is a / b rounded down: r is at most that, and r + 1 is above it.
 pub record RoundedDown (a b r : ℕ) : Type 0 where
   pub within : r * b ≤ a
   pub greatest : a < r * b + b

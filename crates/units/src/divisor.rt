@@ -1,6 +1,6 @@
 ghost use Rattle.std.specs.Prelude.{◌<◌};
 
-// A whole number above 0, fit to divide by. Unlike a `NonZeroU64` it is written as it is, with no test when it runs.
+// A whole number above 0, to divide by.
 #[derive(Clone, Copy, Debug, PartialEq, Eq)]
 pub struct Divisor {
     pub value: u64,

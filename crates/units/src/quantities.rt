@@ -1,7 +1,8 @@
-ghost use Rattle.std.specs.Prelude.{◌≡◌, ◌+◌, ◌-◌, ◌^◌, ◌<◌, ◌≤◌, pos, negsuc, ◌+ℤ◌, ◌≤ℤ◌};
-
 // The quantities, one struct around a number each, so that none passes for another.
 // Each holds any number of its width: whether it is within limits is asked by the function that takes it.
+
+ghost use Rattle.std.specs.Prelude.{◌≡◌, ◌+◌, ◌-◌, ◌^◌, ◌<◌, ◌≤◌, pos, negsuc, ◌+ℤ◌, ◌≤ℤ◌};
+
 use std::ops::{Add, Sub};
 
 // A speed in tenths of km/h.
@@ -41,7 +42,7 @@ impl Sub for Speed {
 // A speed in fine steps, thousandths of a tenth of km/h.
 #[derive(Clone, Copy, Debug, PartialEq, Eq, PartialOrd, Ord)]
 pub struct FineSpeed {
-    pub steps: u64,
+    pub fine_steps: u64,
 }
 
 // A distance, or a place along the line, in mm.

@@ -20,7 +20,7 @@ impl<'a, T: Copy> PlaceList<'a, T> {
 impl<'a, T: Copy + Keyed> PlaceList<'a, T> {
     // The index of the first item with the key. The order is by place, so it is looked for from the start.
     pub fn find_key(&self, key: u64) -> Option<usize>
-        ensures { Found (λ y. T.Keyed.number y.item) key (sequence self.now) result }
+        ensures { Found (λ y. T.Keyed.key_number y.item) key (sequence self.now) result }
     {
         self.items().iter().position(|x| x.item.key() == key)
     }

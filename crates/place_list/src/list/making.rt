@@ -21,7 +21,7 @@ impl<'a, T: Copy> PlaceList<'a, T> {
     }
 
     // The memory goes back to the caller, with the items at its start.
-    pub fn give_up(self) -> &'a mut [Placed<T>]
+    pub fn into_memory(self) -> &'a mut [Placed<T>]
         ensures memory { result.now ≡ memory_of self.entry }
         ensures lent { result.ghost_name ≡ loan_of self.entry }
     {

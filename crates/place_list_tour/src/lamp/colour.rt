@@ -1,5 +1,5 @@
 // The colour of a lamp, with its number.
-#[derive(Clone, Copy, Debug, PartialEq, Eq, Hash)]
+#[derive(Clone, Copy, Debug, PartialEq, Eq)]
 pub enum Lamp {
     Red = 1,
     Amber = 2,

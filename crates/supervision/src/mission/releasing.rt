@@ -16,15 +16,15 @@ impl<M: BrakingModel> Mission<M> {
         ensures phase { IfOk result (λ p. p ≡ self.new.phase) }
         ensures law { Law M.BrakingModel.meaning Release (answer_of result) self.old self.new lists.now lists.now }
     {
-        if !self.releasable() {
+        if !self.is_releasable() {
             return Err(Refusal::NotReleasable);
         }
         self.phase = Phase::Free;
         Ok(self.accept())
     }
 
-    // The phase is emergency, and the last accepted call was a sample in zone 0.
-    fn releasable(&self) -> bool
+    // Whether the phase is emergency, and the last accepted call was a sample in zone 0.
+    fn is_releasable(&self) -> bool
         ensures { result ≡ is_releasable self.now.phase self.now.clear }
     {
         self.phase == Phase::Emergency && self.clear

@@ -13,7 +13,7 @@ use units::{Distance, Speed};
 
 impl<M: BrakingModel> Mission<M> {
     // The train's front is at the place and runs this fast: works out the zone and the phase.
-    // Refused where the place is beyond the furthest (7), or the speed above 4,000 tenths of km/h (8); one above the model's top speed is a sample like any other.
+    // Refused where the place is beyond the furthest (7), or the speed above 4,000 tenths of km/h (8). A speed above the model's top speed is accepted, in zone 3.
     pub fn sample(
         &mut self,
         lists: &Lists<'_>,

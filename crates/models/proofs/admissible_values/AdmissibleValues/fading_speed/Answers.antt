@@ -9,7 +9,7 @@ unfolding vl
 returns c =
     let values = c.args.self.now.values in
     let within = limits values c.args.self.now.valid in
-    let value : c.entry_at.result.tenths ≡ vl values.lambda = c.entry_at.ensures in
+    let value : c.fading_speed_at.result.tenths ≡ vl values.lambda = c.fading_speed_at.ensures in
     record {
       value = value;
       rule = subst (λ (n : ℕ). Greatest values.lambda n) (sym value) (greatest values.lambda within.lambda_least within.lambda_most within.lambda_fives);

@@ -10,4 +10,4 @@ returns c =
     let approach = c.args.approach in
     let by-kr = scaled_is _ _ _ _ _ c.kr_factor.ensures c.base_deceleration-base.ensures.value c.scale-by_kr.ensures.value in
     let reduced = scaled_is _ _ _ _ _ c.target_factor.ensures by-kr c.scale.ensures.value in
-    reduced ∙ sym (two_of_five (base_deceleration c.args.sheet.now.values.lambda) (ratio c.args.sheet.now.values.kr 100) (target_factor approach.speed approach.target))
+    reduced ∙ sym (two_of_five (base_deceleration c.args.sheet.now.values.lambda) (ratio c.args.sheet.now.values.kr 100) (target_factor approach.speed approach.target_speed))

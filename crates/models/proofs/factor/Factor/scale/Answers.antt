@@ -11,4 +11,4 @@ pub returns : goal.returns
 returns c =
     let self = c.args.self in
     let value = c.quotient_down-units.ensures.value in
-    record { value = value; bounded = at_most_twice c.args.deceleration.units self.over self.under c.quotient_down-units.result self.above self.at_most_two value }
+    record { value = value; bounded = at_most_twice c.args.deceleration.units self.numerator self.denominator c.quotient_down-units.result self.positive self.at_most_two value }

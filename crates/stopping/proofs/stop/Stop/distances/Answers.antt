@@ -17,17 +17,17 @@ pub add-warning-requires : goal.add-warning-requires
 add-warning-requires c =
     omega (
       arith,
-      reaction_small c.args.self.now.reaction.time.ticks c.args.reached.speed.steps c.args.self.now.reaction.brief c.args.reached.bounded,
-      braking_small c.args.reached.speed.steps c.target_speed.result.steps (natural c.args.net.deceleration.units) c.args.reached.bounded,
-      lead_small c.args.self.now.lead.warning.tenths c.args.reached.speed.steps c.args.self.now.lead.warning.brief c.args.reached.bounded,
+      reaction_small c.args.self.now.reaction.time.ticks c.args.reached.speed.fine_steps c.args.self.now.reaction.brief c.args.reached.bounded,
+      braking_small c.args.reached.speed.fine_steps c.target_fine_speed.result.fine_steps (natural c.args.net.deceleration.units) c.args.reached.bounded,
+      lead_small c.args.self.now.lead.warning.tenths c.args.reached.speed.fine_steps c.args.self.now.lead.warning.brief c.args.reached.bounded,
     )
 
 pub add-nominal-requires : goal.add-nominal-requires
 add-nominal-requires c =
     omega (
       arith,
-      reaction_small c.args.self.now.reaction.time.ticks c.args.reached.speed.steps c.args.self.now.reaction.brief c.args.reached.bounded,
-      braking_small c.args.reached.speed.steps c.target_speed.result.steps (natural c.args.net.deceleration.units) c.args.reached.bounded,
-      lead_small c.args.self.now.lead.warning.tenths c.args.reached.speed.steps c.args.self.now.lead.warning.brief c.args.reached.bounded,
-      lead_small c.args.self.now.lead.hysteresis.tenths c.args.reached.speed.steps c.args.self.now.lead.hysteresis.brief c.args.reached.bounded,
+      reaction_small c.args.self.now.reaction.time.ticks c.args.reached.speed.fine_steps c.args.self.now.reaction.brief c.args.reached.bounded,
+      braking_small c.args.reached.speed.fine_steps c.target_fine_speed.result.fine_steps (natural c.args.net.deceleration.units) c.args.reached.bounded,
+      lead_small c.args.self.now.lead.warning.tenths c.args.reached.speed.fine_steps c.args.self.now.lead.warning.brief c.args.reached.bounded,
+      lead_small c.args.self.now.lead.hysteresis.tenths c.args.reached.speed.fine_steps c.args.self.now.lead.hysteresis.brief c.args.reached.bounded,
     )

@@ -39,31 +39,31 @@ uncast_maximum (pos a) n h k = omega (arith, ints)
 uncast_maximum (negsuc a) n h k = omega (arith, ints)
 
 -- what is returned, of the loss and the larger of what is left and the target speed
-facts : (self : StopStruct) (loss : SpeedLoss) (t : ℕ) (m : ℤ) → Floored (pos (9 * self.reaction.time.ticks) *ℤ self.slope.units) 250000000000 loss.steps → t ≡ 1000 * self.target.tenths → mag m < 9223372036854775808 →
-    m ≡ int_max (to_z w64 (of_z w64 (to_z w64 (of_z w64 (pos 1000 *ℤ to_z w64 self.speed.tenths)) -ℤ to_z w64 (of_z w64 loss.steps)))) (to_z w64 t) →
-    record { value : nat_abs (to_z w64 (of_z w64 m)) ≡ speed_reached_up (stop_of self (whole 0)); bounded : nat_abs (to_z w64 (of_z w64 m)) ≤ 5000000; reaches : 1000 * self.target.tenths ≤ nat_abs (to_z w64 (of_z w64 m)) }
+facts : (self : StopStruct) (loss : SpeedLoss) (t : ℕ) (m : ℤ) → Floored (pos (9 * self.reaction.time.ticks) *ℤ self.slope.units) 250000000000 loss.fine_steps → t ≡ 1000 * self.target_speed.tenths → mag m < 9223372036854775808 →
+    m ≡ int_max (to_z w64 (of_z w64 (to_z w64 (of_z w64 (pos 1000 *ℤ to_z w64 self.speed.tenths)) -ℤ to_z w64 (of_z w64 loss.fine_steps)))) (to_z w64 t) →
+    record { value : nat_abs (to_z w64 (of_z w64 m)) ≡ speed_reached_up (stop_of self (whole 0)); bounded : nat_abs (to_z w64 (of_z w64 m)) ≤ 5000000; reaches : 1000 * self.target_speed.tenths ≤ nat_abs (to_z w64 (of_z w64 m)) }
 facts self loss t m f is-t fits cast =
     let s : Stop = stop_of self (whole 0) in
-    let q : ℤ = loss.steps in
+    let q : ℤ = loss.fine_steps in
     let is-left = uncast_left s.speed q self.slow loss.not_below loss.not_above in
-    let is-target = target_uncast s.target t self.target_slow is-t in
+    let is-target = target_uncast s.target_speed t self.target_slow is-t in
     let e = simp (is-left, is-target) at cast in
-    let low : pos (1000 * s.target) ≤ℤ m = omega (arith, ints, clamps) in
+    let low : pos (1000 * s.target_speed) ≤ℤ m = omega (arith, ints, clamps) in
     let least : (pos (1000 * s.speed) -ℤ q) ≤ℤ m = omega (arith, ints, clamps) in
-    let is : pos (nat_abs (to_z w64 (of_z w64 m))) ≡ m = uncast_maximum m (1000 * s.target) fits low in
+    let is : pos (nat_abs (to_z w64 (of_z w64 m))) ≡ m = uncast_maximum m (1000 * s.target_speed) fits low in
     let r : ℕ = nat_abs (to_z w64 (of_z w64 m)) in
-    let reaches : 1000 * s.target ≤ r = omega (arith, ints, is, low) in
-    let either : (pos r ≡ pos (1000 * s.speed) -ℤ q) ⊎ (r ≡ 1000 * s.target) =
-    elim (one_of_two (pos (1000 * s.speed) -ℤ q) (pos (1000 * s.target)) m e) [ inl a ↦ inl (is ∙ a) | inr b ↦ inr (omega (arith, ints, is ∙ b)) ] in
+    let reaches : 1000 * s.target_speed ≤ r = omega (arith, ints, is, low) in
+    let either : (pos r ≡ pos (1000 * s.speed) -ℤ q) ⊎ (r ≡ 1000 * s.target_speed) =
+    elim (one_of_two (pos (1000 * s.speed) -ℤ q) (pos (1000 * s.target_speed)) m e) [ inl a ↦ inl (is ∙ a) | inr b ↦ inr (omega (arith, ints, is ∙ b)) ] in
     let value = is_reached_up s q r f reaches (rw is least) either in
     record { value = value; bounded = rw value (reached_up_bounded s (limited self (whole 0))); reaches = reaches }
 
 pub invariant_of-result : goal.invariant_of-result
 invariant_of-result c =
-    let all = facts c.args.self.now c.in_fine_steps.result c.target_speed-target.result.steps c.max.result (rw c.exact_loss.ensures at c.in_fine_steps.ensures) c.target_speed-target.ensures c.max.type_inv c.max.ensures.value in
+    let all = facts c.args.self.now c.in_fine_steps.result c.target_fine_speed-target.result.fine_steps c.max.result (rw c.exact_loss.ensures at c.in_fine_steps.ensures) c.target_fine_speed-target.ensures c.max.type_inv c.max.ensures.value in
     record { bounded = all.bounded }
 
 pub returns : goal.returns
 returns c =
-    let all = facts c.args.self.now c.in_fine_steps.result c.target_speed-target.result.steps c.max.result (rw c.exact_loss.ensures at c.in_fine_steps.ensures) c.target_speed-target.ensures c.max.type_inv c.max.ensures.value in
+    let all = facts c.args.self.now c.in_fine_steps.result c.target_fine_speed-target.result.fine_steps c.max.result (rw c.exact_loss.ensures at c.in_fine_steps.ensures) c.target_fine_speed-target.ensures c.max.type_inv c.max.ensures.value in
     record { value = all.value; reaches = all.reaches }

@@ -2,7 +2,7 @@ use Rattle.std.proofs.Common.{◌≡◌, ℕ, ◌+◌, true, false, ℤ, pos, �
 use lib.Signed.{lt_z}
 use Rattle.braking.specs.Answers.{Says}
 use Rattle.braking.specs.declared.distances.Distances.{Distances}
-use Rattle.stopping.specs.Stops.{Stop, natural, target_steps, speed_reached, speed_reached_up, net, computed_reaction, computed_braking, computed_lead, computed_distances, verdict}
+use Rattle.stopping.specs.Stops.{Stop, natural, target_fine_steps, speed_reached, speed_reached_up, net, computed_reaction, computed_braking, computed_lead, computed_distances, verdict}
 use Rattle.stopping.specs.Steps.{stop_of}
 use Rattle.stopping.proofs.Limits.{limited}
 use Rattle.stopping.proofs.Losses.{factors_lose}
@@ -15,7 +15,7 @@ unfolding verdict
 says_weak s a e is = rw (is, e) tt
 
 says_strong : (s : Stop) (a : Option Distances) (d : Distances) (B : ℕ) (D : ℤ) → lt_z (net s) (pos 500000) ≡ false → a ≡ Some d → B ≡ speed_reached_up s → D ≡ net s →
-    d.control.millimetres ≡ computed_reaction s.reaction B + computed_braking B (target_steps s) (natural D) →
+    d.control.millimetres ≡ computed_reaction s.reaction B + computed_braking B (target_fine_steps s) (natural D) →
     d.warning.millimetres ≡ d.control.millimetres + computed_lead s.warning B →
     d.nominal.millimetres ≡ d.warning.millimetres + computed_lead s.hysteresis B → Says (verdict s) a
 unfolding verdict computed_distances
@@ -39,7 +39,7 @@ returns c =
         answer = elim c.if-is_weak.branch [
           | then-is_weak w ↦ says_weak (stop_of self exact) _ (sym tested ∙ w.if-is_weak.true) w.answer-is
           | else-is_weak w ↦
-              says_strong (stop_of self exact) _ w.distances.result c.speed_reached-reached.result.speed.steps c.net-net.result.units (sym tested ∙ w.if-is_weak.false) w.answer-is
+              says_strong (stop_of self exact) _ w.distances.result c.speed_reached-reached.result.speed.fine_steps c.net-net.result.units (sym tested ∙ w.if-is_weak.false) w.answer-is
               c.speed_reached-reached.ensures.value c.net-net.ensures w.distances.ensures.control w.distances.ensures.warning w.distances.ensures.nominal
         ];
       };

@@ -8,7 +8,7 @@ use braking::BrakingModel;
 use calls::{Phase, Zone};
 
 impl<M: BrakingModel> Mission<M> {
-    // The new phase follows from the phase before and the zone together.
+    // Takes in the zone of a sample: the phase by the table of docs/MISSION.md, in which only a release ends an emergency, and whether the zone is clear.
     pub(super) fn enter(&mut self, zone: Zone)
         ensures phase { self.new.phase ≡ next_phase self.old.phase zone }
         ensures clear { self.new.clear ≡ is_clear zone }

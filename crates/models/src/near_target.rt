@@ -40,10 +40,10 @@ fn near_target(train: Service, brake: Service) -> NearTarget
 
 // The share of the pipe time that scmt counts: all of it, or less near a target speed above 0.
 pub(crate) fn scmt_share(train: Service, brake: Service, approach: Approach) -> Share
-    ensures { result.hundredths ≡ scmt_share train brake approach.speed approach.target }
+    ensures { result.hundredths ≡ scmt_share train brake approach.speed approach.target_speed }
 {
     let near = near_target(train, brake);
-    let target = approach.target();
+    let target = approach.target_speed();
     if target > STANDSTILL && approach.speed() < target + near.width {
         near.share
     } else {

@@ -5,7 +5,7 @@ use Rattle.stopping.proofs.Given.{steps_given}
 use Rattle.models.specs.Formulas.{top}
 use Rattle.models.specs.Meanings.{meaning_of, stop_for}
 use Rattle.models.proofs.Uncut.{never_cut}
-use Rattle.models.proofs.railway.Railway.steps.Goals as goal
+use Rattle.models.proofs.rules_model.RulesModel.steps.Goals as goal
 
 pub returns-in_err-approach : goal.returns-in_err-approach
 returns-in_err-approach g c =

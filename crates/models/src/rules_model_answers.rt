@@ -8,19 +8,19 @@ ghost use Rattle.stopping.specs.Steps.{GivesSteps, HasNumbersOf};
 
 use crate::admissible_values::AdmissibleValues;
 use crate::pipe_length::PipeLength;
-use crate::railway::Railway;
 use crate::rules::Rules;
+use crate::rules_model::RulesModel;
 use braking::{Approach, BrakingModel, Distances, Question, Refusal, TopSpeed};
 use sheet::Admitted;
 use std::marker::PhantomData;
 use stopping::{ReactionTime, Steps, Stop, slope};
 
-impl<R: Rules> Railway<R> {
+impl<R: Rules> RulesModel<R> {
     // The model with the values of an admitted sheet.
-    pub fn new(sheet: &Admitted) -> Railway<R>
+    pub fn new(sheet: &Admitted) -> RulesModel<R>
         ensures { result.sheet.values ≡ sheet.now.values }
     {
-        Railway {
+        RulesModel {
             sheet: AdmissibleValues {
                 values: sheet.values(),
             },
@@ -39,12 +39,12 @@ impl<R: Rules> Railway<R> {
 
     // How long the brake takes to act.
     fn reaction_time(&self, approach: Approach) -> ReactionTime
-        ensures { result.time.ticks ≡ reaction_time R.name self.now.sheet.values approach.speed approach.target }
+        ensures { result.time.ticks ≡ reaction_time R.name self.now.sheet.values approach.speed approach.target_speed }
     {
         let sheet = &self.sheet;
         let pipe = PipeLength::of(sheet).braking_time(sheet.values.brake, R::counts_ep(sheet));
         ReactionTime {
-            time: pipe.share(R::pipe_share(sheet, approach)) + R::delay(),
+            time: pipe.times(R::pipe_share(sheet, approach)) + R::delay(),
         }
     }
 
@@ -54,7 +54,7 @@ impl<R: Rules> Railway<R> {
     {
         Stop {
             speed: approach.speed(),
-            target: approach.target(),
+            target_speed: approach.target_speed(),
             reaction: self.reaction_time(approach),
             slope: slope(approach),
             braking: R::brake_deceleration(&self.sheet, approach),
@@ -63,7 +63,7 @@ impl<R: Rules> Railway<R> {
     }
 }
 
-impl<R: Rules> BrakingModel for Railway<R> {
+impl<R: Rules> BrakingModel for RulesModel<R> {
     ghost meaning = { λ m. meaning_of R.name m.sheet.values };
 
     ghost lawful = { λ m. model_lawful R.name m.sheet.values m.sheet.valid };

@@ -6,11 +6,11 @@ use std::fmt;
 
 // What a model answers to a question, to be printed: the three distances, `weak`, or the refusal. A struct around it, since `Display` is foreign to a `Result`.
 #[derive(Clone, Copy, Debug, PartialEq, Eq)]
-pub struct Printed {
+pub struct PrintedAnswer {
     pub answer: Result<Option<Distances>, Refusal>,
 }
 
-impl fmt::Display for Printed {
+impl fmt::Display for PrintedAnswer {
     ghost use Rattle.braking.specs.Printed.{answer_text};
 
     ghost output = { λ p. Some (answer_text p.answer) };

@@ -32,7 +32,7 @@ impl<M: BrakingModel> Mission<M> {
         Ok(self.accept())
     }
 
-    // Adds a target by its number. It stands behind the point by the distance, less the sheet's share of that distance.
+    // Adds a target by its number. It stands beyond the point by the distance, less the sheet's eps percent of it (`target_place`).
     // Refused where the point, the distance or their sum is beyond the furthest place (7), the speed above the model's top speed (8), the number taken (10), or no more fit (11).
     pub fn announce(
         &mut self,
@@ -64,7 +64,7 @@ impl<M: BrakingModel> Mission<M> {
         Ok(self.accept())
     }
 
-    // Any accepted call but a sample in zone 0 bars a release.
+    // Ends an accepted call that is no sample: the phase stays, and no release is due until a sample in zone 0.
     pub(super) fn accept(&mut self) -> Phase
         ensures value { result ≡ self.new.phase }
         ensures phase { self.new.phase ≡ self.old.phase }

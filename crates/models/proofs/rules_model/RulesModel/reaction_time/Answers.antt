@@ -1,5 +1,5 @@
 use Rattle.models.specs.Formulas.{reaction_time}
-use Rattle.models.proofs.railway.Railway.reaction_time.Goals as goal
+use Rattle.models.proofs.rules_model.RulesModel.reaction_time.Goals as goal
 
 pub returns : goal.returns
 unfolding reaction_time
