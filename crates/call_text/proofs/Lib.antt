@@ -1,8 +1,9 @@
-mod Separators
-mod FieldTexts
-mod ValueTexts
-mod LineAnswers
-mod Moves
-mod OneText
-mod Acceptance
-mod OneAnswer
+pub mod FaultTurning
+pub mod Heads
+pub mod LineFinding
+pub mod KindTexts
+pub mod KindReadings
+pub mod KindAcceptance
+pub mod KindAnswers
+pub mod CallParts
+pub mod CallAnswers

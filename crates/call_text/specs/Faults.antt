@@ -1,29 +1,24 @@
 -- The number, the byte and the layer of each fault of a call line.
 use Rattle.std.specs.Prelude.{ℕ}
-use Rattle.fields.specs.Faults.{number as number_below, fault_byte as byte_below}
-use Rattle.fields.specs.declared.faults.ValueFault.TheVariants.{Text, OtherKey, BadValue}
-use Rattle.sheet_text.specs.declared.layer.Layer.{Layer}
-use Rattle.sheet_text.specs.declared.layer.Layer.TheVariants.{Text as TextLayer, Value as ValueLayer, Sheet as SheetLayer}
+use Rattle.descriptions.specs.Faults.{number_of_value, byte_of_value, layer_of_value}
+use Rattle.descriptions.specs.declared.layer.Layer.{Layer}
+use Rattle.descriptions.specs.declared.layer.Layer.TheVariants.{Sheet}
+use Rattle.descriptions.specs.declared.report.Report.{Report}
 use Rattle.call_text.specs.declared.call_fault.CallFault.{CallFault}
-use Rattle.call_text.specs.declared.call_fault.CallFault.TheVariants.{Field, UnknownCall, NumberTooLarge, LeftOver}
+use Rattle.call_text.specs.declared.call_fault.CallFault.TheVariants.{Value, LeftOver}
 
 abbrev pub number : CallFault → ℕ
-number (Field f) = number_below f
-number UnknownCall = 2
-number (NumberTooLarge b) = 4
+number (Value f) = number_of_value f
 number (LeftOver b) = 5
 
--- Counted from the line's first byte; that byte itself where a key or the call is another.
+-- Counted from the line's first byte.
 abbrev pub fault_byte : CallFault → ℕ
-fault_byte (Field (Text t)) = byte_below (Text t)
-fault_byte (Field (OtherKey b)) = 0
-fault_byte (Field (BadValue b)) = b
-fault_byte UnknownCall = 0
-fault_byte (NumberTooLarge b) = b
+fault_byte (Value f) = byte_of_value f
 fault_byte (LeftOver b) = b
 
 abbrev pub layer_of : CallFault → Layer
-layer_of (Field f) = TextLayer
-layer_of UnknownCall = TextLayer
-layer_of (NumberTooLarge b) = ValueLayer
-layer_of (LeftOver b) = SheetLayer
+layer_of (Value f) = layer_of_value f
+layer_of (LeftOver b) = Sheet
+
+abbrev pub report_of : CallFault → Report
+report_of f = record { number = number f; byte = fault_byte f; layer = layer_of f }

@@ -1,5 +1,7 @@
+pub mod Calls
 pub mod CallTexts
 pub mod Faults
+pub mod KindLines
 pub mod Kinds
-pub mod LineFields
 pub mod Lines
+pub mod Reading

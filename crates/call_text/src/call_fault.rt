@@ -1,25 +1,20 @@
 ghost use Rattle.std.specs.Prelude.{◌≡◌};
-ghost use Rattle.call_text.specs.declared.call_fault.CallFault.TheVariants.{Field as OfField};
+ghost use Rattle.call_text.specs.declared.call_fault.CallFault.TheVariants.{Value as OfValue};
 
-use fields::ValueFault;
+use descriptions::ValueFault;
 
-// Why a call line could not be read. Bytes are counted from the line's first.
+// Why a line is no call: the fault of finding the line or one of its fields, kept whole, or one of the line as a whole. Bytes are counted from the line's first.
 #[derive(Clone, Copy, Debug, PartialEq, Eq)]
 pub enum CallFault {
-    Field(ValueFault),
-    // the word behind the first key is no call
-    UnknownCall,
-    // the number of a target that begins at this byte is over 65,535
-    NumberTooLarge(usize),
+    Value(ValueFault),
     // the line goes on from this byte behind its last field
     LeftOver(usize),
 }
 
-// The fault of the field reader, kept whole.
 impl From<ValueFault> for CallFault {
-    ghost from_gives = { λ e r. r ≡ OfField e };
+    ghost from_gives = { λ e r. r ≡ OfValue e };
 
     fn from(e: ValueFault) -> CallFault {
-        CallFault::Field(e)
+        CallFault::Value(e)
     }
 }

@@ -1,7 +1,7 @@
 use crate::call_fault::CallFault;
 use calls::Call;
 
-// What the first line of a text was read as.
+// The first line of a text as a call, or its first fault.
 #[derive(Clone, Copy, Debug, PartialEq, Eq)]
 pub struct CallLine {
     pub call: Result<Call, CallFault>,

@@ -1,10 +1,9 @@
 ghost use Rattle.std.specs.Prelude.{◌≡◌, Some};
-ghost use Rattle.sheet_text.specs.Faults.{fault_text};
-ghost use Rattle.call_text.specs.Faults.{fault_byte, layer_of, number};
+ghost use Rattle.descriptions.specs.Faults.{report_text};
+ghost use Rattle.call_text.specs.Faults.{fault_byte, layer_of, number, report_of};
 
 use crate::call_fault::CallFault;
-use fields::ValueFault;
-use sheet_text::Layer;
+use descriptions::{Layer, Report};
 use std::error::Error;
 use std::fmt;
 
@@ -14,9 +13,7 @@ impl CallFault {
         ensures { result ≡ number self }
     {
         match self {
-            CallFault::Field(fault) => fault.number(),
-            CallFault::UnknownCall => 2,
-            CallFault::NumberTooLarge(_) => 4,
+            CallFault::Value(fault) => fault.number(),
             CallFault::LeftOver(_) => 5,
         }
     }
@@ -26,10 +23,8 @@ impl CallFault {
         ensures { result ≡ fault_byte self }
     {
         match self {
-            CallFault::Field(ValueFault::OtherKey(_)) => 0,
-            CallFault::Field(fault) => fault.byte(),
-            CallFault::UnknownCall => 0,
-            CallFault::NumberTooLarge(byte) | CallFault::LeftOver(byte) => byte,
+            CallFault::Value(fault) => fault.byte(),
+            CallFault::LeftOver(byte) => byte,
         }
     }
 
@@ -38,8 +33,7 @@ impl CallFault {
         ensures { result ≡ layer_of self }
     {
         match self {
-            CallFault::Field(_) | CallFault::UnknownCall => Layer::Text,
-            CallFault::NumberTooLarge(_) => Layer::Value,
+            CallFault::Value(fault) => fault.layer(),
             CallFault::LeftOver(_) => Layer::Sheet,
         }
     }
@@ -47,16 +41,15 @@ impl CallFault {
 
 // A fault prints as its number, byte and layer.
 impl fmt::Display for CallFault {
-    ghost output = { λ fault. Some (fault_text (number fault) (fault_byte fault) (layer_of fault)) };
+    ghost output = { λ fault. Some (report_text (report_of fault)) };
 
     fn fmt<W: fmt::Write>(&self, f: &mut fmt::Formatter<W>) -> fmt::Result {
-        write!(
-            f,
-            "answer={} byte={} layer={}",
-            self.number(),
-            self.byte(),
-            self.layer()
-        )
+        let report = Report {
+            number: self.number(),
+            byte: self.byte(),
+            layer: self.layer(),
+        };
+        write!(f, "{report}")
     }
 }
 

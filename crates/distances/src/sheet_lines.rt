@@ -1,5 +1,5 @@
 use sheet::Admitted;
-use sheet_writer::{ROOM, write_sheet};
+use sheet_text::{ROOM, write_sheet};
 use std::io;
 
 // The text of the sheet.

@@ -2,7 +2,7 @@
 use Rattle.std.specs.Prelude.{ℕ, ◌+◌, ◌-◌, ◌*◌, ◌≤◌, ◌&&◌, nat_lt}
 use Rattle.std.proofs.Common.{mul-le-mul, arith}
 use Rattle.std.proofs.lemmas.Bool.{cond_both}
-use Rattle.sheet.proofs.Limits.{Limits}
+use Rattle.sheet.specs.Limits.{Limits}
 use Rattle.sheet.specs.declared.words.Model.{Model}
 use Rattle.sheet.specs.declared.words.Model.TheVariants.{Scmt, Etcs}
 use Rattle.sheet.specs.declared.words.Service.{Service}

@@ -1,4 +1,5 @@
 ghost use Rattle.std.specs.Prelude.{◌≡◌, true, if◌then◌else◌};
+ghost use Rattle.sheet.specs.Limits.{Limits};
 ghost use Rattle.sheet.specs.Ranges.{admissible};
 
 use sheet::Values;
@@ -9,6 +10,7 @@ use stopping::{LeadTime, LeadTimes};
 pub struct AdmissibleValues {
     pub(crate) values: Values,
     ghost valid: { admissible values ≡ true },
+    ghost limits: { Limits values },
 }
 
 impl AdmissibleValues {

@@ -1,3 +1,6 @@
 pub mod Spelling
 pub mod Plainness
+pub mod Counts
 pub mod RoundTrip
+pub mod Values
+pub mod Signs

@@ -1,11 +1,11 @@
 -- Plain digits are exactly the written digits of their value.
-use Rattle.std.proofs.Common.{◌≡◌, ℕ, ◌^◌, ◌<◌, List, length, get_or, Some, None, decimal, Option, sym, ap, ◌∙◌, subst, ⊎_elim, arith}
+use Rattle.std.proofs.Common.{◌≡◌, ℕ, ◌^◌, ◌<◌, ◌≤◌, List, length, get_or, decimal, refl, sym, ap, ◌∙◌, subst, ⊎_elim, arith}
 use Rattle.std.specs.Str.Parse.{digits_value}
 use Rattle.std.proofs.lemmas.Bool.{cases_lt}
 use Rattle.std.proofs.lemmas.Str.Parse.{IsNumeralModel, numerals_by_value, tells_by_index, digits_value_short}
 use Rattle.std.proofs.lemmas.Fmt.{decimal_digit, decimal_nonempty, first_decimal, digits_decimal, digits_value-decimal, decimal-digits_value}
 use Rattle.numerals.specs.Digits.{AllDigits}
-use Rattle.numerals.specs.Numerals.{Writes, NumberRead, HasLeadingZero, IsPlain, PlainRead, HasAtMostTenDigits}
+use Rattle.numerals.specs.Numerals.{Writes, HasLeadingZero, IsPlain}
 use Rattle.numerals.proofs.Spelling.{under_ten_digits}
 
 pub numeral_model : IsNumeralModel AllDigits (digits_value 10)
@@ -45,11 +45,6 @@ writes_plain max_digits n bytes w =
       sym (ap (digits_value 10) e ∙ digits_value-decimal numeral_model n (omega arith)),
     )
 
--- what is said of plain digits is said of written numbers
-pub read_from_plain : (max_digits : ℕ) (bytes : List ℕ) (r : Option ℕ) → PlainRead max_digits bytes r → NumberRead max_digits bytes r
-read_from_plain max_digits bytes (Some n) h = subst (λ (m : ℕ). Writes max_digits m bytes) (sym h.1) (plain_writes max_digits bytes h.0)
-read_from_plain max_digits bytes None h = λ n w. h (writes_plain max_digits n bytes w).0
-
-pub small_from_plain : (max_digits : ℕ) (bytes : List ℕ) (r : Option ℕ) → PlainRead max_digits bytes r → HasAtMostTenDigits r
-small_from_plain max_digits bytes (Some n) h = omega (arith, h.1, plain_small max_digits bytes h.0)
-small_from_plain max_digits bytes None h = tt
+-- so the digits of a number that has at most 10 are plain
+pub decimal_plain : (n : ℕ) → length (decimal n) ≤ 10 → IsPlain 10 (decimal n)
+decimal_plain n short = (writes_plain 10 n (decimal n) record { written = refl; within = short; short = short }).0

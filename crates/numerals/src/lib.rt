@@ -1,10 +1,13 @@
 #![tactic(auto)]
 
 mod digit;
-mod reading;
+mod digits;
+mod signed_taking;
+mod taking;
 mod width;
 mod writing;
 
-pub use reading::read_number;
+pub use digits::{Digits, SignedDigits};
+pub use taking::MAX_DIGITS;
 pub use width::digit_count;
 pub use writing::write_number;

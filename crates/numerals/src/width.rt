@@ -1,6 +1,7 @@
 ghost use Rattle.std.specs.Prelude.{◌≡◌, ◌≤◌, length, decimal};
 
 // How many decimal digits a number has, 1 to 20.
+#[tactic(auto, using(crate::proofs::Counts::count_by_power))]
 pub fn digit_count(number: u64) -> usize
     ensures count { result ≡ length (decimal number) }
     ensures some { 1 ≤ result }

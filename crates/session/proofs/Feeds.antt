@@ -11,7 +11,7 @@ use denote.Param.Members.{Mut}
 use Rattle.std.specs.declared.iter.Map.{Map}
 use Rattle.std.specs.declared.iter.Take.{Take}
 use Rattle.std.specs.declared.slice.SplitInclusive.{SplitInclusive}
-use Rattle.fields.specs.Lines.{feed}
+use Rattle.descriptions.specs.Lines.{feed}
 use Rattle.session.specs.SheetLines.{end_of_lines}
 
 none_left : (bytes : List ℕ) → end_of_lines 0 bytes ≡ 0

@@ -1,6 +1,6 @@
 -- Where the first lines of a text end.
 use Rattle.std.specs.Prelude.{ℕ, zero, suc, ◌+◌, cond, List, [], ◌∷◌, ◌==◌}
-use Rattle.fields.specs.Lines.{feed}
+use Rattle.descriptions.specs.Lines.{feed}
 
 -- How many bytes there are up to and with the n-th line feed, or in all where there are fewer.
 abbrev pub end_of_lines : (n : ℕ) → List ℕ → ℕ

@@ -1,7 +1,7 @@
 ghost use Rattle.std.specs.Prelude.{◌≡◌, ◌≤◌, length};
 ghost use Rattle.session.specs.SheetLines.{end_of_lines};
 
-use sheet_text::SHEET_LINES;
+use sheet::SHEET_LINES;
 
 // Where the first twelve lines of a text end: behind the twelfth line feed, or with the text where it has fewer.
 pub fn sheet_end(text: &[u8]) -> usize

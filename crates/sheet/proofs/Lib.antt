@@ -1,1 +1,3 @@
 pub mod Limits
+pub mod Rebuilding
+pub mod OneList

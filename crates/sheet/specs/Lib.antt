@@ -1,4 +1,6 @@
 pub mod Ranges
 pub mod Refusals
 pub mod Admitting
-pub mod Values
+pub mod Lines
+pub mod Lists
+pub mod Limits

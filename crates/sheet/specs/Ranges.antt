@@ -1,25 +1,14 @@
 -- Which values a train sheet may have.
-use Rattle.std.specs.Prelude.{ℕ, ◌%◌, Bool, true, false, ◌&&◌, ◌==◌, nat_le}
-use Rattle.sheet.specs.declared.number_key.NumberKey.{NumberKey}
-use Rattle.sheet.specs.declared.number_key.NumberKey.TheVariants.{Ep, Lambda, Length, Kr, Tw, Ti, Eps}
+use Rattle.std.specs.Prelude.{Bool, true, false, ◌&&◌}
+use Rattle.descriptions.specs.Fitting.{all_fit}
+use Rattle.sheet.specs.Lines.{sheet_lines, list_of}
 use Rattle.sheet.specs.declared.values.Values.{Values}
 use Rattle.sheet.specs.declared.words.Service.{Service}
 use Rattle.sheet.specs.declared.words.Service.TheVariants.{Passenger, Goods}
 
--- The range of each number.
-abbrev pub in_range : NumberKey → ℕ → Bool
-in_range Ep n = nat_le n 1
-in_range Lambda n = nat_le 45 n && (nat_le n 160 && n % 5 == 0)
-in_range Length n = nat_le n 1000
-in_range Kr n = nat_le 30 n && nat_le n 150
-in_range Tw n = nat_le n 100
-in_range Ti n = nat_le n 100
-in_range Eps n = nat_le n 20
-
--- Every number is in its range.
-abbrev pub in_ranges : Values → Bool
-in_ranges v =
-    in_range Ep v.ep && (in_range Lambda v.lambda && (in_range Length v.length && (in_range Kr v.kr && (in_range Tw v.tw && (in_range Ti v.ti && in_range Eps v.eps)))))
+-- Every value is one that its line allows.
+unfoldable pub in_ranges : Values → Bool
+in_ranges v = all_fit sheet_lines (list_of v)
 
 -- A goods brake stands only with a goods train: first the train, then its brake.
 abbrev pub brake_allowed : Service → Service → Bool

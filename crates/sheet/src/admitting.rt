@@ -1,4 +1,5 @@
 ghost use Rattle.std.specs.Prelude.{◌≡◌, true};
+ghost use Rattle.sheet.specs.Limits.{Limits};
 ghost use Rattle.sheet.specs.Ranges.{admissible};
 ghost use Rattle.sheet.specs.Admitting.{AdmitAnswers};
 
@@ -32,6 +33,7 @@ impl Admitted {
     pub fn values(&self) -> Values
         ensures same { result ≡ self.now.values }
         ensures valid { admissible result ≡ true }
+        ensures limits { Limits result }
     {
         self.values
     }

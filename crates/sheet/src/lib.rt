@@ -2,17 +2,17 @@
 
 mod admitted;
 mod admitting;
-mod changing;
 mod draft;
-mod number_key;
+mod lists;
 mod ranges;
 mod refusal;
+mod sheet_lines;
 mod values;
 mod words;
 
 pub use admitted::Admitted;
 pub use draft::{Draft, Rejected};
-pub use number_key::NumberKey;
 pub use refusal::Refusal;
+pub use sheet_lines::{SHEET_LINES, lines};
 pub use values::Values;
 pub use words::{LengthChoice, Model, Regime, Service};

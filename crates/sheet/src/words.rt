@@ -1,4 +1,4 @@
-// The values of a train sheet that are words. Above each stands the word of the sheet's text.
+// The values of a train sheet that are words. Above each stands the word of the sheet's text. The cases stand in the order of the words of their line.
 
 // The braking model that a sheet names.
 #[derive(Clone, Copy, Debug, PartialEq, Eq)]

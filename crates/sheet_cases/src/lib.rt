@@ -3,7 +3,7 @@
 // Drafts with values at their limits and one beyond, and what admitting answers to each.
 #[cfg(test)]
 mod tests {
-    use sheet::{Draft, LengthChoice, Model, NumberKey, Regime, Rejected, Service, Values};
+    use sheet::{Draft, LengthChoice, Model, Regime, Rejected, Service, Values};
 
     // Values that are admitted.
     const VALID: Values = Values {
@@ -37,53 +37,78 @@ mod tests {
         }
     }
 
-    const AT_THE_LIMITS: [(NumberKey, u16); 13] = [
-        (NumberKey::Ep, 1),
-        (NumberKey::Lambda, 45),
-        (NumberKey::Lambda, 160),
-        (NumberKey::Length, 0),
-        (NumberKey::Length, 1000),
-        (NumberKey::Kr, 30),
-        (NumberKey::Kr, 150),
-        (NumberKey::Tw, 0),
-        (NumberKey::Tw, 100),
-        (NumberKey::Ti, 0),
-        (NumberKey::Ti, 100),
-        (NumberKey::Eps, 0),
-        (NumberKey::Eps, 20),
+    const AT_THE_LIMITS: [Values; 13] = [
+        Values { ep: 1, ..VALID },
+        Values {
+            lambda: 45,
+            ..VALID
+        },
+        Values {
+            lambda: 160,
+            ..VALID
+        },
+        Values { length: 0, ..VALID },
+        Values {
+            length: 1000,
+            ..VALID
+        },
+        Values { kr: 30, ..VALID },
+        Values { kr: 150, ..VALID },
+        Values { tw: 0, ..VALID },
+        Values { tw: 100, ..VALID },
+        Values { ti: 0, ..VALID },
+        Values { ti: 100, ..VALID },
+        Values { eps: 0, ..VALID },
+        Values { eps: 20, ..VALID },
     ];
 
-    const BEYOND: [(NumberKey, u16); 15] = [
-        (NumberKey::Ep, 2),
-        (NumberKey::Ep, 65535),
-        (NumberKey::Lambda, 0),
-        (NumberKey::Lambda, 40),
-        (NumberKey::Lambda, 44),
-        (NumberKey::Lambda, 46),
-        (NumberKey::Lambda, 159),
-        (NumberKey::Lambda, 165),
-        (NumberKey::Length, 1001),
-        (NumberKey::Kr, 29),
-        (NumberKey::Kr, 151),
-        (NumberKey::Kr, 65535),
-        (NumberKey::Tw, 101),
-        (NumberKey::Ti, 101),
-        (NumberKey::Eps, 21),
+    const BEYOND: [Values; 15] = [
+        Values { ep: 2, ..VALID },
+        Values { ep: 65535, ..VALID },
+        Values { lambda: 0, ..VALID },
+        Values {
+            lambda: 40,
+            ..VALID
+        },
+        Values {
+            lambda: 44,
+            ..VALID
+        },
+        Values {
+            lambda: 46,
+            ..VALID
+        },
+        Values {
+            lambda: 159,
+            ..VALID
+        },
+        Values {
+            lambda: 165,
+            ..VALID
+        },
+        Values {
+            length: 1001,
+            ..VALID
+        },
+        Values { kr: 29, ..VALID },
+        Values { kr: 151, ..VALID },
+        Values { kr: 65535, ..VALID },
+        Values { tw: 101, ..VALID },
+        Values { ti: 101, ..VALID },
+        Values { eps: 21, ..VALID },
     ];
 
     #[test]
     fn values_at_their_limits_are_admitted(rt: HostRuntime) {
-        for (key, value) in &AT_THE_LIMITS {
-            let values = VALID.with(*key, *value);
-            assert_eq!(rt; answer(values), (0, values.eps));
+        for values in &AT_THE_LIMITS {
+            assert_eq!(rt; answer(*values), (0, values.eps));
         }
     }
 
     #[test]
     fn values_beyond_their_limits_are_refused(rt: HostRuntime) {
-        for (key, value) in &BEYOND {
-            let values = VALID.with(*key, *value);
-            assert_eq!(rt; answer(values), (4, values.eps));
+        for values in &BEYOND {
+            assert_eq!(rt; answer(*values), (4, values.eps));
         }
     }
 

@@ -1,7 +1,5 @@
-mod Completeness
-pub mod FeedFree
+pub mod Fronts
 pub mod Acceptance
-mod LineTexts
-pub mod MoreLines
-mod Progress
-mod ShortNumbers
+pub mod Room
+pub mod Written
+pub mod Described

@@ -1,34 +1,26 @@
 -- The number, the byte and the layer of each fault of a sheet.
-use Rattle.std.specs.Prelude.{ℕ, List, ◌++◌, codes, decimal}
-use Rattle.fields.specs.Faults.{number as number_below, fault_byte as byte_below}
+use Rattle.std.specs.Prelude.{ℕ}
+use Rattle.descriptions.specs.Faults.{number_of_value, byte_of_value, layer_of_value}
+use Rattle.descriptions.specs.declared.layer.Layer.{Layer}
+use Rattle.descriptions.specs.declared.layer.Layer.TheVariants.{Sheet}
+use Rattle.descriptions.specs.declared.report.Report.{Report}
 use Rattle.sheet_text.specs.declared.faults.SheetFault.{SheetFault}
-use Rattle.sheet_text.specs.declared.faults.SheetFault.TheVariants.{Value, OutOfRange, LeftOver, GoodsBrake}
-use Rattle.sheet_text.specs.declared.layer.Layer.{Layer}
-use Rattle.sheet_text.specs.declared.layer.Layer.TheVariants.{Text as TextLayer, Value as ValueLayer, Sheet as SheetLayer}
+use Rattle.sheet_text.specs.declared.faults.SheetFault.TheVariants.{Value, LeftOver, GoodsBrake}
 
 abbrev pub number : SheetFault → ℕ
-number (Value f) = number_below f
-number (OutOfRange b) = 4
+number (Value f) = number_of_value f
 number (LeftOver b) = 5
 number GoodsBrake = 6
 
 abbrev pub fault_byte : SheetFault → ℕ
-fault_byte (Value f) = byte_below f
-fault_byte (OutOfRange b) = b
+fault_byte (Value f) = byte_of_value f
 fault_byte (LeftOver b) = b
 fault_byte GoodsBrake = 0
 
 abbrev pub layer_of : SheetFault → Layer
-layer_of (Value f) = TextLayer
-layer_of (OutOfRange b) = ValueLayer
-layer_of (LeftOver b) = SheetLayer
-layer_of GoodsBrake = SheetLayer
+layer_of (Value f) = layer_of_value f
+layer_of (LeftOver b) = Sheet
+layer_of GoodsBrake = Sheet
 
-abbrev pub layer_word : Layer → List ℕ
-layer_word TextLayer = codes "text"
-layer_word ValueLayer = codes "value"
-layer_word SheetLayer = codes "sheet"
-
--- What is printed of a fault, whatever was read.
-abbrev pub fault_text : (number byte : ℕ) → Layer → List ℕ
-fault_text n b layer = codes "answer=" ++ (decimal n ++ (codes " byte=" ++ (decimal b ++ (codes " layer=" ++ layer_word layer))))
+abbrev pub report_of : SheetFault → Report
+report_of f = record { number = number f; byte = fault_byte f; layer = layer_of f }

@@ -1,5 +1,4 @@
-pub mod Entries
 pub mod Faults
-pub mod Reading
+pub mod Refusals
 pub mod Sheets
-pub mod Words
+pub mod Writing

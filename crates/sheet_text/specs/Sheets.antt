@@ -1,68 +1,52 @@
--- What reading a sheet answers: the sheet whose text it is, or the first question with a no.
-use Rattle.std.specs.Prelude.{◌≡◌, ℕ, ◌≤◌, true, false, List, [], ◌∷◌, ◌++◌, map, length, drop, Ok, Err, Result, ◌≢◌}
+-- The text of a sheet, and what reading one answers: the sheet whose text it is, or the first question with a no.
+use Rattle.std.specs.Prelude.{◌≡◌, ℕ, true, false, List, ◌++◌, length, drop, Ok, Err, Result, ◌≢◌}
+use Rattle.descriptions.specs.Layouts.{rows_text}
+use Rattle.descriptions.specs.Reading.{RowsStop}
+use Rattle.descriptions.specs.declared.faults.ValueFault.{ValueFault}
+use Rattle.descriptions.specs.declared.layout.Layout.{Layout}
+use Rattle.descriptions.specs.declared.layout.Layout.TheVariants.{Lines}
+use Rattle.sheet.specs.Lines.{sheet_lines, list_of}
 use Rattle.sheet.specs.Ranges.{in_ranges, brake_allowed}
-use Rattle.sheet.specs.declared.words.Model.TheVariants.{Scmt}
-use Rattle.sheet.specs.declared.words.Regime.TheVariants.{Operation}
-use Rattle.sheet.specs.declared.words.Service.TheVariants.{Passenger}
-use Rattle.sheet.specs.declared.words.LengthChoice.TheVariants.{Fixed}
-use Rattle.sheet.specs.Values.{with_number}
+use Rattle.sheet.specs.Refusals.{number}
+use Rattle.sheet.specs.declared.refusal.Refusal.TheVariants.{OutOfRange}
 use Rattle.sheet.specs.declared.values.Values.{Values}
 use Rattle.sheet.specs.declared.admitted.Admitted.{Admitted}
 use Rattle.sheet.specs.declared.draft.Draft.{Draft}
-use Rattle.sheet_text.specs.Entries.{key_of, keys, lines, written_sheet}
-use Rattle.sheet_text.specs.Reading.{IsInRange, LineFault}
-use Rattle.sheet_text.specs.declared.entry.Entry.{Entry}
-use Rattle.sheet_text.specs.declared.entry.Entry.TheVariants.{Model as OfModel, Regime as OfRegime, Train as OfTrain, Brake as OfBrake, Lfren as OfLfren, Number as OfNumber}
 use Rattle.sheet_text.specs.declared.faults.SheetFault.{SheetFault}
-use Rattle.sheet_text.specs.declared.faults.SheetFault.TheVariants.{Value, OutOfRange, LeftOver, GoodsBrake}
-use Rattle.sheet_text.specs.declared.key.Key.{Key}
-use Rattle.std.specs.List.{AllByRecursion}
+use Rattle.sheet_text.specs.declared.faults.SheetFault.TheVariants.{Value, LeftOver, GoodsBrake}
 
--- A sheet with one entry put in.
-abbrev pub with_entry : Entry → Values → Values
-with_entry (OfModel x) v = record v { model = x }
-with_entry (OfRegime x) v = record v { regime = x }
-with_entry (OfTrain x) v = record v { train = x }
-with_entry (OfBrake x) v = record v { brake = x }
-with_entry (OfLfren x) v = record v { lfren = x }
-with_entry (OfNumber k n) v = with_number k n v
+-- Each of the twelve lines has at most 32 bytes, its line feed among them.
+abbrev pub sheet_layout : Layout
+sheet_layout = Lines 32
 
--- Entries put in one after the other.
-abbrev pub with_entries : List Entry → Values → Values
-with_entries [] v = v
-with_entries (e ∷ es) v = with_entries es (with_entry e v)
+-- A value out of its range is refused with the number that admitting refuses it with.
+abbrev pub range_number : ℕ
+range_number = number OutOfRange
 
--- What a sheet has before its entries are put in.
-abbrev pub blank_values : Values
-blank_values = record { model = Scmt; regime = Operation; train = Passenger; brake = Passenger; ep = 0; lambda = 0; length = 0; lfren = Fixed; kr = 0; tw = 0; ti = 0; eps = 0 }
-
--- The text begins with the lines of some of the twelve keys, in range all of them, and the line of the next key has this fault.
-pub record Stops (text : List ℕ) (f : SheetFault) : Type 0 where
-  pub before : List Entry
-  pub key : Key
-  pub behind : List Key
-  pub in_order : keys ≡ map key_of before ++ key ∷ behind
-  pub ranged : AllByRecursion IsInRange before
-  pub text_is : text ≡ lines before ++ drop (length (lines before)) text
-  pub faulty : LineFault key text (length (lines before)) f
-
--- The text begins with that of a sheet whose values are in range, which ends at a byte.
-pub record Fronts (text : List ℕ) (v : Values) (end : ℕ) : Type 0 where
-  pub ranged : in_ranges v ≡ true
-  pub front : text ≡ written_sheet v ++ drop end text
-  pub ends : end ≡ length (written_sheet v)
-  pub within : end ≤ length text
-
--- What the lines of a text answer, with the byte behind the last as the next one.
-abbrev pub FrontAnswers : List ℕ → (next : ℕ) → Result Values SheetFault → Type 0
-FrontAnswers text next (Ok v) = Fronts text v next
-FrontAnswers text next (Err f) = Stops text f
+-- The text of a sheet: its lines with its values.
+unfoldable pub written_sheet : Values → List ℕ
+written_sheet v = rows_text sheet_layout sheet_lines (list_of v)
 
 -- The text is that of this sheet.
 pub record IsText (text : List ℕ) (v : Values) : Type 0 where
   pub ranged : in_ranges v ≡ true
   pub allowed : brake_allowed v.train v.brake ≡ true
   pub same : text ≡ written_sheet v
+
+-- The text begins with that of a sheet whose values are in range, which ends at a byte.
+pub record Fronts (text : List ℕ) (v : Values) (end : ℕ) : Type 0 where
+  pub ranged : in_ranges v ≡ true
+  pub front : text ≡ written_sheet v ++ drop end text
+  pub ends : end ≡ length (written_sheet v)
+
+-- One of the twelve lines has this fault, and those before it stand in the text.
+unfoldable pub Stops : (text : List ℕ) → ValueFault → Type 0
+Stops text f = RowsStop sheet_layout range_number sheet_lines text 0 f
+
+-- What the lines of a text answer, with the byte behind the last as the next one.
+abbrev pub FrontAnswers : List ℕ → (next : ℕ) → Result Values ValueFault → Type 0
+FrontAnswers text next (Ok v) = Fronts text v next
+FrontAnswers text next (Err f) = Stops text f
 
 -- Whether the brake stands with a train that it may stand with.
 abbrev pub BrakeAsked : Values → Result (Unit {0}) SheetFault → Type 0
@@ -71,8 +55,7 @@ BrakeAsked v (Err f) = (f ≡ GoodsBrake) × (brake_allowed v.train v.brake ≡ 
 
 -- The first question with a no.
 abbrev pub FaultDue : List ℕ → SheetFault → Type 0
-FaultDue text (Value f) = Stops text (Value f)
-FaultDue text (OutOfRange b) = Stops text (OutOfRange b)
+FaultDue text (Value f) = Stops text f
 FaultDue text (LeftOver b) = (v : Values) × Fronts text v b × (b ≢ length text)
 FaultDue text GoodsBrake = (v : Values) × (in_ranges v ≡ true) × (text ≡ written_sheet v) × (brake_allowed v.train v.brake ≡ false)
 
@@ -88,6 +71,14 @@ IsTaken v (Err f) = ⊥
 -- A text is the text of one sheet at most.
 abbrev pub OneSheet : List ℕ → Type 0
 OneSheet text = (v w : Values) → IsText text v → IsText text w → v ≡ w
+
+-- The text is the only one of the sheet.
+abbrev pub IsOnlyText : List ℕ → Values → Type 0
+IsOnlyText text v = (other : List ℕ) → IsText other v → other ≡ text
+
+-- A text has one answer at most.
+abbrev pub OneAnswer : List ℕ → Type 0
+OneAnswer text = (r s : Result Draft SheetFault) → SheetAnswers text r → SheetAnswers text s → r ≡ s
 
 -- The same of an admitted sheet.
 abbrev pub AdmittedAnswers : List ℕ → Result Admitted SheetFault → Type 0

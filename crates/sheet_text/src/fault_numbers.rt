@@ -1,8 +1,9 @@
 ghost use Rattle.std.specs.Prelude.{◌≡◌, Some};
-ghost use Rattle.sheet_text.specs.Faults.{fault_text, fault_byte, layer_of, layer_word, number};
+ghost use Rattle.descriptions.specs.Faults.{report_text};
+ghost use Rattle.sheet_text.specs.Faults.{fault_byte, layer_of, number, report_of};
 
 use crate::faults::SheetFault;
-use crate::layer::Layer;
+use descriptions::{Layer, Report};
 use std::error::Error;
 use std::fmt;
 
@@ -13,7 +14,6 @@ impl SheetFault {
     {
         match self {
             SheetFault::Value(fault) => fault.number(),
-            SheetFault::OutOfRange(_) => 4,
             SheetFault::LeftOver(_) => 5,
             SheetFault::GoodsBrake => 6,
         }
@@ -25,7 +25,7 @@ impl SheetFault {
     {
         match self {
             SheetFault::Value(fault) => fault.byte(),
-            SheetFault::OutOfRange(byte) | SheetFault::LeftOver(byte) => byte,
+            SheetFault::LeftOver(byte) => byte,
             SheetFault::GoodsBrake => 0,
         }
     }
@@ -35,47 +35,23 @@ impl SheetFault {
         ensures { result ≡ layer_of self }
     {
         match self {
-            SheetFault::Value(_) => Layer::Text,
-            SheetFault::OutOfRange(_) => Layer::Value,
+            SheetFault::Value(fault) => fault.layer(),
             SheetFault::LeftOver(_) | SheetFault::GoodsBrake => Layer::Sheet,
         }
     }
 }
 
-impl Layer {
-    // The layer's word.
-    pub fn word(self) -> &'static str
-        ensures { result.now ≡ layer_word self }
-    {
-        match self {
-            Layer::Text => "text",
-            Layer::Value => "value",
-            Layer::Sheet => "sheet",
-        }
-    }
-}
-
-// A layer prints as its word.
-impl fmt::Display for Layer {
-    ghost output = { λ layer. Some (layer_word layer) };
-
-    fn fmt<W: fmt::Write>(&self, f: &mut fmt::Formatter<W>) -> fmt::Result {
-        f.write_str(self.word())
-    }
-}
-
 // A fault prints as its number, byte and layer.
 impl fmt::Display for SheetFault {
-    ghost output = { λ fault. Some (fault_text (number fault) (fault_byte fault) (layer_of fault)) };
+    ghost output = { λ fault. Some (report_text (report_of fault)) };
 
     fn fmt<W: fmt::Write>(&self, f: &mut fmt::Formatter<W>) -> fmt::Result {
-        write!(
-            f,
-            "answer={} byte={} layer={}",
-            self.number(),
-            self.byte(),
-            self.layer()
-        )
+        let report = Report {
+            number: self.number(),
+            byte: self.byte(),
+            layer: self.layer(),
+        };
+        write!(f, "{report}")
     }
 }
 

@@ -1,20 +1,15 @@
 #![tactic(auto)]
 
 mod admitting;
-mod entry;
 mod fault_numbers;
 mod faults;
-mod key;
-mod layer;
 mod reading;
-mod values;
-mod word;
-mod words;
+mod refusal;
+mod sheet_description;
+mod writing;
 
 pub use admitting::read_admitted;
-pub use entry::Entry;
 pub use faults::SheetFault;
-pub use key::{Key, WordKey};
-pub use layer::Layer;
-pub use reading::{SHEET_LINES, read_sheet};
-pub use word::{Word, read_word};
+pub use reading::read_sheet;
+pub use refusal::Refusal;
+pub use writing::{ROOM, write_sheet};

@@ -1,19 +1,14 @@
-use Rattle.call_text.proofs.OneText.{one_call}
-use Rattle.call_text.proofs.Acceptance.{taken, next_line}
-use Rattle.call_text.proofs.OneAnswer.{one_answer}
+use Rattle.call_text.proofs.CallAnswers.{taken, one_call, one_call_answer, call_goes_forward}
 use Rattle.call_text.proofs.reading.read_call.Goals as goal
 
-pub returns : goal.returns
-returns c =
-    let text = c.args.text.now in
-    let call = c.read_line.result.call in
-    let next = c.read_line.result.next in
-    let answers = c.read_line.ensures in
-    record {
-      answers = answers;
-      exactly = λ d rest w is. taken d w text rest is call next answers;
-      only = one_call;
-      once = one_answer text;
-      within = (next_line text call next answers).0;
-      goes_on = (next_line text call next answers).1;
-    }
+pub returns-clause-exactly : goal.returns-clause-exactly
+returns-clause-exactly c = taken c.args.text.now c.read_line.result.call c.read_line.result.next c.read_line.ensures
+
+pub returns-clause-only : goal.returns-clause-only
+returns-clause-only c = one_call
+
+pub returns-clause-once : goal.returns-clause-once
+returns-clause-once c = one_call_answer c.args.text.now
+
+pub returns-clause-goes_on : goal.returns-clause-goes_on
+returns-clause-goes_on c = (call_goes_forward c.args.text.now c.read_line.result.call c.read_line.result.next c.read_line.ensures).1

@@ -1,8 +1,5 @@
-use Rattle.std.proofs.Common.{length, refl}
-use Rattle.call_text.proofs.LineAnswers.{answered}
+use Rattle.call_text.proofs.CallAnswers.{made}
 use Rattle.call_text.proofs.reading.read_line.Goals as goal
 
-pub returns-in-Ok : goal.returns-in-Ok
-returns-in-Ok c =
-    let line = c.in-Ok.line.bytes.now in
-    answered c.args.text.now line (length line) refl c.in-Ok.ensures.1 c.call_in.result c.call_in.ensures
+pub returns : goal.returns
+returns c = made c.args.text.now c.read_kind_line-line.result.next c.read_kind_line-line.result.found c.map.result c.read_kind_line-line.ensures.answers c.map.ensures.cases

@@ -1,22 +1,20 @@
-use Rattle.std.proofs.Common.{ℕ, List, Bor, subst, ◌∙◌}
+use Rattle.std.proofs.Common.{rules}
 use Rattle.std.proofs.lemmas.Result.{err_from_is_err_and}
-use Rattle.sheet_text.proofs.Progress.{step, stop, finish}
-use Rattle.sheet_text.specs.Sheets.{Stops, Fronts}
+use Rattle.sheet_text.proofs.Described.{stops, stands as stands_in}
+use Rattle.sheet_text.proofs.Fronts.{fronts, stop_from, stands_from, sheet_made, made_of}
 use Rattle.sheet_text.proofs.reading.read_values.Goals as goal
 
-pub loop-key-preserved : goal.loop-key-preserved
-loop-key-preserved c =
-    let read = c.in_ok-read_entry.ensures in
-    let more = step c.loop-key.rest.text.now c.loop-key.key-index c.loop-key.rest.at c.read_entry.new.rest.at c.loop-key.values _ c.in_ok-read_entry.field-0 c.loop-key.invariant.0 c.loop-key-test.true read.answers in
-    (rw (read.same, c.with_entry-values.ensures) more, read.same ∙ c.loop-key.invariant.1)
-
-pub returns-in_err-read_entry-clause-answers : goal.returns-in_err-read_entry-clause-answers
-returns-in_err-read_entry-clause-answers c =
+pub returns-in_err-list-clause-answers : goal.returns-in_err-list-clause-answers
+returns-in_err-list-clause-answers c =
     let p = err_from_is_err_and c.from_residual.result c.from_residual.ensures.1 in
-    let stops = stop c.loop-key.rest.text.now c.loop-key.key-index c.loop-key.rest.at c.loop-key.values _ _ c.loop-key.invariant.0 c.loop-key-test.true c.in_err-read_entry.ensures.answers in
-    rw (p.1, p.2) (subst (λ (t : Bor (List ℕ)). Stops t.now c.in_err-read_entry.field-0.0) c.loop-key.invariant.1 stops)
+    rw (p.1, p.2) (stop_from c.args.rest.now.text.now c.args.rest.now.at c.in_err-list.field-0.0 (stops c.description.result (record { rows = c.description.ensures.rows; layout = c.description.ensures.layout; number = c.description.ensures.number }) c.args.rest.now.text.now c.args.rest.now.at c.read.new.rest.at c.in_err-list.field-0.0 c.in_err-list.ensures.answers) c.requires)
+
+pub unwrap-requires : goal.unwrap-requires
+unwrap-requires c =
+    let stands = stands_from c.args.rest.now.text.now c.args.rest.now.at c.read.new.rest.at c.in_ok-list.list (stands_in c.description.result (record { rows = c.description.ensures.rows; layout = c.description.ensures.layout; number = c.description.ensures.number }) c.args.rest.now.text.now c.args.rest.now.at c.read.new.rest.at c.in_ok-list.list c.in_ok-list.ensures.answers) (search rules) c.requires in
+    sheet_made c.in_ok-list.list c.from_list.result c.from_list.ensures.made stands.fit
 
 pub returns-clause-answers : goal.returns-clause-answers
 returns-clause-answers c =
-    subst (λ (t : Bor (List ℕ)). Fronts t.now c.loop-key.values c.loop-key.rest.at) c.loop-key.invariant.1
-    (finish c.loop-key.rest.text.now c.loop-key.key-index c.loop-key.rest.at c.loop-key.values c.loop-key.invariant.0 c.loop-key-test.false)
+    let stands = stands_from c.args.rest.now.text.now c.args.rest.now.at c.read.new.rest.at c.in_ok-list.list (stands_in c.description.result (record { rows = c.description.ensures.rows; layout = c.description.ensures.layout; number = c.description.ensures.number }) c.args.rest.now.text.now c.args.rest.now.at c.read.new.rest.at c.in_ok-list.list c.in_ok-list.ensures.answers) (search rules) c.requires in
+    fronts c.args.rest.now.text.now c.in_ok-list.list c.unwrap.result c.read.new.rest.at stands (made_of c.in_ok-list.list c.from_list.result c.unwrap.result c.from_list.ensures.made c.unwrap.ensures)

@@ -1,0 +1,10 @@
+pub mod Faults
+pub mod Fitting
+pub mod Keys
+pub mod Layouts
+pub mod Laws
+pub mod Lines
+pub mod Reading
+pub mod Rows
+pub mod Writing
+pub mod Values

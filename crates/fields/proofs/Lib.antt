@@ -1,4 +1,0 @@
-pub mod Ending
-pub mod Firsts
-pub mod Separators
-mod Signs

@@ -1,5 +1,0 @@
-pub mod Faults
-pub mod Fields
-pub mod Keys
-pub mod Lines
-pub mod Signed
