@@ -87,11 +87,15 @@ def cases():
 
 BRAKE = (900, 25, 1600)
 GRADES = {0: -4, 1_500_000: -12}
+# a yard begins behind the target: its place in mm, and its speed in tenths of km/h
+YARD, YARD_SPEED = 2_600_000, 150
 POINT, DISTANCE, ALLOWED = 200_000, 2_400_000, 300
 PLACE = POINT + DISTANCE - ceil(F(DISTANCE * EPS, 100))
 CALLS = [
     ("sample", 500_000, 1_400), ("sample", 1_350_000, 1_400), ("sample", 1_460_000, 1_400), ("sample", 1_540_000, 1_400), ("release",),
     ("sample", 1_900_000, 1_000), ("release",), ("sample", 2_050_000, 600), ("release",), ("sample", 2_552_000, 290),
+    ("sample", 2_599_999, 290), ("sample", 2_600_000, 220), ("sample", 2_640_000, 251), ("release",), ("sample", 2_660_000, 160), ("release",), ("sample", 2_680_000, 150), ("release",),
+    ("lift", YARD), ("sample", 2_700_000, 300),
 ]
 
 
@@ -112,7 +116,9 @@ def run():
         shown(0, "-", "free")
     print(f"call=announce number=1 point={POINT} distance={DISTANCE} speed={ALLOWED}")
     shown(0, "-", "free")
-    phase, clear = "free", False
+    print(f"call=ceiling place={YARD} speed={YARD_SPEED}")
+    shown(0, "-", "free")
+    phase, clear, yard = "free", False, True
     for call in CALLS:
         if call[0] == "release":
             print("call=release")
@@ -120,6 +126,11 @@ def run():
             if number == 0:
                 phase, clear = "free", False
             shown(number, "-", phase)
+            continue
+        if call[0] == "lift":
+            print(f"call=lift place={call[1]}")
+            clear, yard = False, False
+            shown(0, "-", phase)
             continue
         _, front, speed = call
         print(f"call=sample place={front} speed={speed}")
@@ -129,6 +140,8 @@ def run():
         if speed > ALLOWED:
             found = three(BRAKE, speed, ALLOWED, grade)
             zone = 3 if found is None else sum(PLACE - front <= d for d in found)
+        if yard and front >= YARD:
+            zone = max(zone, sum(speed - YARD_SPEED > limit for limit in (0, 50, 100)))
         if zone == 3:
             phase = "emergency"
         elif phase != "emergency" and zone in (0, 2):

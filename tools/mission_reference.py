@@ -10,20 +10,14 @@ import os
 import re
 import sys
 
-from reference import A, KEYS, read_text, sheet, steps, top
+from reference import A, DUE, KEYS, read_text, sheet, steps, top
 
 NEXT = b"next\n"
 END = b"\x01"
 MAX_BYTES = 65_536
 MAX_PLACE, MAX_SPEED = 1_000_000_000, 4_000
-SECTIONS, TARGETS = 64, 32
-FIELDS = {
-    "slope": ["place", "grade"],
-    "announce": ["number", "point", "distance", "speed"],
-    "withdraw": ["number"],
-    "sample": ["place", "speed"],
-    "release": [],
-}
+SECTIONS, TARGETS, CEILINGS = 64, 32, 48
+FIELDS = {word.decode(): [key.decode() for key in keys] for word, keys in DUE.items()}
 
 
 class Fault(Exception):
@@ -63,12 +57,13 @@ def require(number, holds):
 
 
 class Mission:
-    """What stands: the grade that begins at each place, and the place and speed of each number."""
+    """What stands: the grade that begins at each place, the place and speed of each number, and the speed of each ceiling's place."""
 
     def __init__(self, values):
         self.values = values
         self.grades = {}
         self.targets = {}
+        self.ceilings = {}
         self.phase = "free"
         self.clear = False
 
@@ -88,10 +83,17 @@ class Mission:
             return 3
         return sum(place - front <= d for d in three)
 
+    def ceiling_zone(self, front, speed):
+        begun = [p for p in self.ceilings if p <= front]
+        if not begun:
+            return 0
+        above = speed - self.ceilings[max(begun)]
+        return sum(above > limit for limit in (0, 50, 100))
+
     def zone(self, front, speed):
         if speed > top(self.values):
             return 3
-        return max([self.target_zone(front, speed, *t) for t in self.targets.values()], default=0)
+        return max([self.target_zone(front, speed, *t) for t in self.targets.values()] + [self.ceiling_zone(front, speed)])
 
     def slope(self, place, grade):
         require(7, place <= MAX_PLACE)
@@ -111,6 +113,18 @@ class Mission:
     def withdraw(self, number):
         require(10, number in self.targets)
         del self.targets[number]
+
+    def ceiling(self, place, speed):
+        require(7, place <= MAX_PLACE)
+        require(8, speed <= top(self.values))
+        require(10, place not in self.ceilings)
+        require(11, len(self.ceilings) < CEILINGS)
+        self.ceilings[place] = speed
+
+    def lift(self, place):
+        require(7, place <= MAX_PLACE)
+        require(10, place in self.ceilings)
+        del self.ceilings[place]
 
     def sample(self, place, speed):
         require(7, place <= MAX_PLACE)
@@ -171,11 +185,20 @@ def withdraw(number):
     return f"call=withdraw number={number}"
 
 
+def ceiling(place, speed):
+    return f"call=ceiling place={place} speed={speed}"
+
+
+def lift(place):
+    return f"call=lift place={place}"
+
+
 def sample(place, speed):
     return f"call=sample place={place} speed={speed}"
 
 
 RELEASE = "call=release"
+PHASES = "free", "warning", "emergency"
 # far from every target of the runs, and standing: zone 0
 STANDING = sample(0, 0)
 LEVEL = slope(0, 0)
@@ -223,6 +246,8 @@ def reading_faults():
         "call=withdraw number=-1", "call=announce number=65536 point=0 distance=0 speed=0", "call=announce number=65536 point=x",
         "call=announce number=1 point=0 distance=0", "call=announce number=1 distance=0 point=0 speed=0",
         "call=announce number=1 point=0 distance=0 speed=0 eps=0", "call=announce number=1 point=0 distance=-1 speed=0",
+        "call=ceiling", "call=ceiling place=5", "call=ceiling speed=5 place=5", "call=ceiling place=5 speed=-5", "call=ceiling place=5 speed=5 ", "call=ceilings place=5 speed=5",
+        "call=lift", "call=lift place=", "call=lift place=05", "call=lift place=-1", "call=lift place=5 speed=5", "call=lift number=5", "call=Lift place=5",
     ]
     yield A, bad
     # between calls, in warning and in emergency: nothing is altered
@@ -391,6 +416,80 @@ def sheets():
             yield s, lines
 
 
+# A yard with a ceiling of 30 km/h from 5 m on, one of 50 km/h from 9 m on, and none before.
+YARD = [ceiling(5_000, 300), ceiling(9_000, 500)]
+
+
+def above_a_ceiling():
+    # at the ceiling, and by how much above it each zone begins
+    yield A, [*YARD, *[sample(5_000, v) for v in (300, 301, 350, 351, 400, 401)], RELEASE]
+    # before the first, one mm before the second, exactly at it, and far behind it
+    yield A, [*YARD, *[sample(p, v) for p, v in [(0, 2_600), (4_999, 2_600), (5_000, 400), (8_999, 400), (9_000, 400), (9_000, 501), (8_999, 401), (9_000, 401), (MAX_PLACE, 500)]], RELEASE]
+    # added in the other order
+    yield A, [*reversed(YARD), *[sample(p, v) for p, v in [(4_999, 600), (5_000, 600), (8_999, 500), (9_000, 500)]]]
+    # at speed 0 nothing is above, and at the furthest place a ceiling holds
+    yield A, [ceiling(0, 0), ceiling(MAX_PLACE, 100), *[sample(p, v) for p, v in [(0, 0), (0, 1), (0, 50), (0, 51), (0, 100), (MAX_PLACE, 100), (MAX_PLACE, 200), (MAX_PLACE - 1, 101)]], RELEASE]
+    # above the top speed, and above 4,000
+    yield A, [ceiling(0, 2_600), sample(0, 2_600), sample(0, 2_601), sample(0, 4_001), sample(0, 2_600), RELEASE]
+
+
+def lifted_ceilings():
+    # the one before it holds again, then none; the next one stays
+    yield A, [*YARD, ceiling(7_000, 100), sample(7_000, 150), lift(7_000), sample(7_000, 300), sample(7_000, 301), lift(5_000), sample(7_000, 2_600), sample(9_000, 501), lift(9_000), sample(9_000, 2_600)]
+    # where none stands, between two, at a taken-out one, and again after it was added anew
+    yield A, [lift(5_000), *YARD, lift(5_001), lift(0), lift(5_000), lift(5_000), ceiling(5_000, 200), sample(5_000, 201), lift(5_000)]
+    # only the one at the place goes
+    yield A, [*YARD, lift(9_000), sample(5_000, 301), sample(9_000, 301), lift(9_000)]
+
+
+def ceilings_refused():
+    yield A, [ceiling(MAX_PLACE + 1, 0), ceiling(MAX_PLACE, 0), ceiling(MAX_PLACE, 0), ceiling(0, 2_601), ceiling(0, 2_600), ceiling(0, 9_999_999_999), ceiling(9_999_999_999, 0), lift(MAX_PLACE + 1), lift(MAX_PLACE), lift(MAX_PLACE)]
+    # two questions with a no: the first is answered
+    yield A, [*YARD, ceiling(MAX_PLACE + 1, 2_601), ceiling(5_000, 2_601), ceiling(5_000, 300), lift(MAX_PLACE + 1)]
+    # a section, a target and a ceiling at one place, and a lift takes the ceiling alone
+    yield A, [slope(5_000, 0), announce(5, 5_000, 0, 300), *YARD, sample(5_000, 300), lift(5_000), slope(5_000, 0), announce(5, 5_000, 0, 0), sample(5_000, 300), withdraw(5), sample(5_000, 301)]
+    # the model's own top
+    s = sheet("etcs E V V 0 100 400 LD 100 20 30 0")
+    yield s, [ceiling(0, top(s) + 1), ceiling(0, top(s)), sample(0, top(s)), sample(0, top(s) + 1)]
+
+
+def full_ceilings():
+    many = [ceiling(1_000 * n, 10 * n) for n in range(CEILINGS)]
+    yield A, [*many, ceiling(48_000, 0), ceiling(47_000, 0), ceiling(48_000, 2_601), slope(0, 0), announce(1, 0, 1_000_000, 0), sample(0, 1), sample(47_999, 470), sample(47_999, 471), lift(48_000), lift(20_000), ceiling(48_000, 5), ceiling(20_000, 5), sample(20_000, 190), sample(48_000, 6)]
+    yield A, [*reversed(many), *[sample(1_000 * n, 10 * n + n) for n in (0, 1, 46, 47)], *[lift(1_000 * n) for n in range(CEILINGS)], lift(0), sample(47_000, 2_600), *many[:3], sample(2_999, 21)]
+    # full lists of the others leave the room of the ceilings as it is
+    yield A, [*[slope(n, 0) for n in range(SECTIONS)], *[announce(n, 0, n, 2_600) for n in range(TARGETS)], *many, slope(64, 0), announce(32, 0, 0, 0), ceiling(48_000, 0)]
+
+
+def ceilings_and_targets():
+    place = 1_000_000
+    out, nominal, before, warning, inside, ctrl = edges(A, place, 1_000, 0, 0)
+    head = [LEVEL, announce(1, 0, place, 0)]
+    # the target's zone is the larger, the two are equal, and the ceiling's is the larger
+    for allowed in (1_000, 999, 950, 949, 900):
+        yield A, [*head, ceiling(0, allowed), out, nominal, before, warning, inside]
+    yield A, [*head, ceiling(0, 899), out]
+    yield A, [*head, ceiling(0, 999), ctrl, RELEASE]
+    # a ceiling further on than the front does not count, however near
+    yield A, [*head, ceiling(place, 0), out, nominal]
+
+
+def ceilings_and_releases():
+    # the brake is on for the ceiling: released at its speed, not one tenth above it
+    braked = [*YARD, sample(5_000, 401)]
+    yield A, [*braked, sample(5_000, 301), RELEASE, sample(5_000, 300), RELEASE, RELEASE]
+    yield A, [*braked, sample(9_000, 500), RELEASE, sample(9_000, 500)]
+    # a refused ceiling or lift between leaves the release, an accepted one bars it
+    for between in [ceiling(5_000, 0), ceiling(1, 2_601), ceiling(MAX_PLACE + 1, 0), lift(1), lift(MAX_PLACE + 1), "call=ceiling place=1", "call=lift place=x", "call=lift"]:
+        yield A, [*braked, sample(5_000, 300), between, RELEASE]
+    # so it is where no more fit
+    yield A, [*YARD, *[ceiling(10_000 + n, 2_600) for n in range(CEILINGS - 2)], sample(5_000, 401), sample(5_000, 300), ceiling(1, 2_600), RELEASE]
+    for between in [ceiling(1, 2_600), lift(9_000), lift(5_000)]:
+        yield A, [*braked, sample(5_000, 300), between, RELEASE, sample(5_000, 300), RELEASE]
+    # a target within its nominal distance bars it, be the train under the ceiling
+    yield A, [LEVEL, announce(1, 0, 1_000_000, 0), ceiling(0, 1_000), sample(0, 1_101), edges(A, 1_000_000, 1_000, 0, 0)[1], RELEASE, edges(A, 1_000_000, 1_000, 0, 0)[0], RELEASE]
+
+
 def last_line_unended():
     yield A, [LEVEL, sample(0, 2_601), STANDING, "call=release\x00"]
 
@@ -423,7 +522,8 @@ def longest_texts():
 
 GROUPS = [
     worked, no_calls, bad_sheets, reading_faults, refusals, two_refusals, full_lists, several_targets, own_speed, passed_targets, stretches, speeds, releases,
-    cuts, equal_places, numbers_again, weak_questions, phases, sections_in_any_order, sheets, last_line_unended, ends_without_a_feed, longest_texts,
+    cuts, equal_places, numbers_again, weak_questions, phases, sections_in_any_order, sheets, above_a_ceiling, lifted_ceilings, ceilings_refused, full_ceilings,
+    ceilings_and_targets, ceilings_and_releases, last_line_unended, ends_without_a_feed, longest_texts,
 ]
 
 
@@ -444,10 +544,55 @@ def texts():
     return all_texts
 
 
+def check_run(run, want):
+    assert answers(text_of(*run)) == ["answer={} phase={} zone={}".format(*w) for w in want]
+
+
 def check_worked():
     (run,) = worked()
     want = [(0, "free", "-"), (0, "free", "-"), (0, "warning", 2), (0, "emergency", 3), (12, "emergency", "-"), (0, "emergency", 0), (0, "free", "-")]
-    assert answers(text_of(*run)) == ["answer={} phase={} zone={}".format(*w) for w in want]
+    check_run(run, want)
+
+
+def check_ceilings():
+    """Runs by a ceiling alone, and the releases after it, by hand."""
+    free, warning, on = PHASES
+    added = [(0, free, "-")] * 2
+    at_it, along, *_ = above_a_ceiling()
+    check_run(at_it, [*added, (0, free, 0), (0, free, 1), (0, free, 1), (0, warning, 2), (0, warning, 2), (0, on, 3), (12, on, "-")])
+    check_run(along, [*added, (0, free, 0), (0, free, 0), (0, warning, 2), (0, warning, 2), (0, free, 0), (0, free, 1), (0, on, 3), (0, on, 0), (0, on, 0), (0, free, "-")])
+    uncovered, *_ = lifted_ceilings()
+    check_run(uncovered, [*added, (0, free, "-"), (0, free, 1), (0, free, "-"), (0, free, 0), (0, free, 1), (0, free, "-"), (0, free, 0), (0, free, 1), (0, free, "-"), (0, free, 0)])
+    one_above, at_the_next, *between = ceilings_and_releases()
+    check_run(one_above, [*added, (0, on, 3), (0, on, 1), (12, on, "-"), (0, on, 0), (0, free, "-"), (12, free, "-")])
+    check_run(at_the_next, [*added, (0, on, 3), (0, on, 0), (0, free, "-"), (0, free, 0)])
+    refused, full, barred = between[:8], between[8], between[9:12]
+    for run, number in zip(refused, (10, 8, 7, 10, 7, 2, 3, 2), strict=True):
+        check_run(run, [*added, (0, on, 3), (0, on, 0), (number, on, "-"), (0, free, "-")])
+    check_run(full, [*[(0, free, "-")] * CEILINGS, (0, on, 3), (0, on, 0), (11, on, "-"), (0, free, "-")])
+    for run in barred:
+        check_run(run, [*added, (0, on, 3), (0, on, 0), (0, on, "-"), (12, on, "-"), (0, on, 0), (0, free, "-")])
+
+
+def check_full_ceilings():
+    free, *_ = PHASES
+    full, *_ = full_ceilings()
+    refused = [(n, free, "-") for n in (11, 10, 8)]
+    check_run(full, [
+        *[(0, free, "-")] * CEILINGS, *refused, *[(0, free, "-")] * 2, (0, free, 1), (0, free, 0), (0, free, 1), (10, free, "-"), (0, free, "-"), (0, free, "-"), (11, free, "-"), (0, free, 0), (0, free, 1),
+    ])
+
+
+def check_ceilings_and_targets():
+    free, warning, on = PHASES
+    # by the target alone the zones are 0, 1, 1, 2 and 2
+    by_ceiling = {1_000: [0, 1, 1, 2, 2], 999: [1, 1, 1, 2, 2], 950: [1, 1, 1, 2, 2], 949: [2] * 5, 900: [2] * 5}
+    *larger, both_control, at_control, further_on = ceilings_and_targets()
+    for run, zones in zip(larger, by_ceiling.values(), strict=True):
+        check_run(run, [(0, free, "-")] * 3 + [(0, warning if z == 2 else free, z) for z in zones])
+    check_run(both_control, [*[(0, free, "-")] * 3, (0, on, 3)])
+    check_run(at_control, [*[(0, free, "-")] * 3, (0, on, 3), (12, on, "-")])
+    check_run(further_on, [*[(0, free, "-")] * 3, (0, free, 0), (0, free, 1)])
 
 
 def lines_of(printed):
@@ -458,6 +603,9 @@ def cases():
     folder = os.path.join(os.path.dirname(os.path.abspath(__file__)), "..", "crates", "mission_cases")
     os.makedirs(folder, exist_ok=True)
     check_worked()
+    check_ceilings()
+    check_full_ceilings()
+    check_ceilings_and_targets()
     with open(os.path.join(folder, "stdin"), "wb") as file:
         file.writelines(text + END for text in texts())
     with open(os.path.join(folder, "stdout"), "wb") as file:

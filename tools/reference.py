@@ -237,6 +237,8 @@ DUE = {
     b"slope": [b"place", b"grade"],
     b"announce": [b"number", b"point", b"distance", b"speed"],
     b"withdraw": [b"number"],
+    b"ceiling": [b"place", b"speed"],
+    b"lift": [b"place"],
     b"sample": [b"place", b"speed"],
     b"release": [],
 }
@@ -274,6 +276,8 @@ GOOD_CALLS = [
     b"call=slope place=1000000 grade=-35",
     b"call=announce number=7 point=250000 distance=1500000 speed=300",
     b"call=withdraw number=7",
+    b"call=ceiling place=300000 speed=700",
+    b"call=lift place=300000",
     b"call=sample place=260000 speed=1200",
     b"call=release",
 ]
@@ -304,7 +308,7 @@ def call_texts_of():
             yield front + b"1" * (size - 1 - len(front)) + b"\n"
             yield front + b"1" * (size - 1 - len(front)) + b"\ncall=release\n"
             yield front + b"1" * (size - len(front))
-    for word in [b"slop", b"slopes", b"Slope", b"SLOPE", b"release0", b"releas", b"announce=", b"withdrawn", b"samples", b"sample\t", b"brake", b"\xff", b"slope\x00"]:
+    for word in [b"slop", b"slopes", b"Slope", b"SLOPE", b"release0", b"releas", b"announce=", b"withdrawn", b"samples", b"sample\t", b"ceilings", b"ceilin", b"lift0", b"lif", b"brake", b"\xff", b"slope\x00"]:
         for tail in [b"", b" place=1 grade=1", b" number=1"]:
             yield b"call=" + word + tail + b"\n"
     for good in GOOD_CALLS:

@@ -1,7 +1,7 @@
 -- The kinds of call can be told apart, and a call is made of its parts.
 use Rattle.std.proofs.Common.{◌≡◌, ℕ, zero, suc, true, List, get_or, ℤ, pos, Ok, Err, Result, unsigned_abs, sym, refl, ap, ◌∙◌}
 use Rattle.calls.specs.declared.call.Call.{Call}
-use Rattle.calls.specs.declared.call.Call.TheVariants.{Slope, Announce, Withdraw, Sample, Release}
+use Rattle.calls.specs.declared.call.Call.TheVariants.{Slope, Announce, Withdraw, Ceiling, Lift, Sample, Release}
 use Rattle.descriptions.specs.Laws.{is_plain, is_same, is_none_of, all_differ, are_words, has_room, is_described}
 use Rattle.descriptions.specs.declared.value.Value.{Value}
 use Rattle.descriptions.specs.declared.value.Value.TheVariants.{Number}
@@ -25,14 +25,18 @@ rebuilt : ℕ → List Value → Call
 rebuilt zero vs = Slope (record { millimetres = size_at vs 0 }) (record { thousandths = number_at vs 1 })
 rebuilt (suc zero) vs = Announce (size_at vs 0) (record { millimetres = size_at vs 1 }) (record { millimetres = size_at vs 2 }) (record { tenths = size_at vs 3 })
 rebuilt (suc (suc zero)) vs = Withdraw (size_at vs 0)
-rebuilt (suc (suc (suc zero))) vs = Sample (record { millimetres = size_at vs 0 }) (record { tenths = size_at vs 1 })
-rebuilt (suc (suc (suc (suc i)))) vs = Release
+rebuilt (suc (suc (suc zero))) vs = Ceiling (record { millimetres = size_at vs 0 }) (record { tenths = size_at vs 1 })
+rebuilt (suc (suc (suc (suc zero)))) vs = Lift (record { millimetres = size_at vs 0 })
+rebuilt (suc (suc (suc (suc (suc zero))))) vs = Sample (record { millimetres = size_at vs 0 }) (record { tenths = size_at vs 1 })
+rebuilt (suc (suc (suc (suc (suc (suc i)))))) vs = Release
 
 is_rebuilt : (c : Call) → rebuilt (parts_of c).0 (parts_of c).1 ≡ c
 unfolding rebuilt size_at number_at
 is_rebuilt (Slope place grade) = refl
 is_rebuilt (Announce n point distance speed) = refl
 is_rebuilt (Withdraw n) = refl
+is_rebuilt (Ceiling place speed) = refl
+is_rebuilt (Lift place) = refl
 is_rebuilt (Sample place speed) = refl
 is_rebuilt Release = refl
 

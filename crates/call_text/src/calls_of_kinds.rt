@@ -30,7 +30,14 @@ pub(crate) fn call_of(found: Found<MAX_FIELDS>) -> Call
         2 => Call::Withdraw {
             number: first.number_of_16_bits(),
         },
-        3 => Call::Sample {
+        3 => Call::Ceiling {
+            place: distance(first),
+            speed: speed(second),
+        },
+        4 => Call::Lift {
+            place: distance(first),
+        },
+        5 => Call::Sample {
             place: distance(first),
             speed: speed(second),
         },

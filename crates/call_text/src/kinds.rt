@@ -42,8 +42,11 @@ const GRADE: Row<'static> = Row {
     kind: ValueKind::Signed(TEN_DIGITS),
 };
 
+// What a ceiling and a sample state.
+const PLACE_AND_SPEED: &[Row<'static>] = &[amount!(b"place"), amount!(b"speed")];
+
 // All kinds of call.
-pub(crate) const KINDS: [CallKind<'static>; 5] = [
+pub(crate) const KINDS: [CallKind<'static>; 7] = [
     CallKind {
         word: b"slope",
         fields: &[amount!(b"place"), GRADE],
@@ -65,8 +68,18 @@ pub(crate) const KINDS: [CallKind<'static>; 5] = [
         range_number: RANGE_NUMBER,
     },
     CallKind {
+        word: b"ceiling",
+        fields: PLACE_AND_SPEED,
+        range_number: RANGE_NUMBER,
+    },
+    CallKind {
+        word: b"lift",
+        fields: &[amount!(b"place")],
+        range_number: RANGE_NUMBER,
+    },
+    CallKind {
         word: b"sample",
-        fields: &[amount!(b"place"), amount!(b"speed")],
+        fields: PLACE_AND_SPEED,
         range_number: RANGE_NUMBER,
     },
     CallKind {

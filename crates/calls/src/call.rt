@@ -22,6 +22,15 @@ pub enum Call {
     Withdraw {
         number: u16,
     },
+    // no more than this speed from the place on, up to the next ceiling, with no braking distance in front of it
+    Ceiling {
+        place: Distance,
+        speed: Speed,
+    },
+    // the ceiling at this place holds no longer
+    Lift {
+        place: Distance,
+    },
     // the front of the train is at this place and runs this fast
     Sample {
         place: Distance,
@@ -55,6 +64,12 @@ impl fmt::Display for Call {
                 point.millimetres, distance.millimetres, speed.tenths
             ),
             Call::Withdraw { number } => write!(f, "withdraw number={number}"),
+            Call::Ceiling { place, speed } => write!(
+                f,
+                "ceiling place={} speed={}",
+                place.millimetres, speed.tenths
+            ),
+            Call::Lift { place } => write!(f, "lift place={}", place.millimetres),
             Call::Sample { place, speed } => write!(
                 f,
                 "sample place={} speed={}",

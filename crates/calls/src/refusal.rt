@@ -6,11 +6,11 @@ ghost use Rattle.calls.specs.Refusals.{number};
 pub enum Refusal {
     // a place, or a distance from one, is beyond 1,000,000,000 mm
     PlaceOutOfLimits = 7,
-    // a target's speed is above the model's top speed, or a sample's above 4,000 tenths of km/h
+    // the speed of a target or a ceiling is above the model's top speed, or a sample's above 4,000 tenths of km/h
     TooFast = 8,
     // the grade is not from -35 to 35
     GradeOutOfLimits = 9,
-    // the section's place or the target's number is taken, or no target has the number that is withdrawn
+    // the place of a section or a ceiling or the number of a target is taken, or nothing stands at the place or with the number that is to be taken out
     Conflict = 10,
     // no more items fit
     Full = 11,

@@ -1,35 +1,76 @@
--- The worked run, that its meaning is lawful, and histories that the lines rule out.
-use Rattle.std.proofs.Common.{◌≡◌, ℕ, ◌≤◌, true, false, leb, [], ◌∷◌, ◌++◌, pos, None, Ok, refl, ap, ◌∙◌, subst, inl, inr, arith, lit<, lit≤}
+-- The worked runs, that their meaning is lawful, and histories that the lines rule out.
+use Rattle.std.proofs.Common.{◌≡◌, ℕ, ◌<◌, ◌≤◌, true, false, leb, List, [], ◌∷◌, ◌++◌, pos, None, Ok, sym, refl, ap, ◌∙◌, append_assoc, subst, inl, inr, arith, lit<, lit≤}
 use Rattle.std.proofs.lemmas.Bool.{le-leb}
+use Rattle.place_list.specs.Membership.{In}
 use Rattle.braking.specs.Laws.{Lawful}
-use Rattle.braking.specs.Meaning.{Question}
+use Rattle.braking.specs.Meaning.{Question, Binds}
 use Rattle.calls.specs.declared.phase.Phase.TheVariants.{Free, Warning, Emergency}
 use Rattle.calls.specs.declared.record.Record.{Record}
-use Rattle.history.specs.History.{History, Target, Bound, slope, announce, withdraw, sample, release}
-use Rattle.history.specs.Lines.{Lines, Reason, MayBrake, MayRelease, LastSampleJustifies}
+use Rattle.history.specs.History.{History, SpeedCeiling, Target, Bound, CeilingHolds, ceiling_from, lift, slope, announce, withdraw, sample, release}
+use Rattle.history.specs.Lines.{FarAbove, KeepsTheLines, Lines, OnAfter, Reason, MayBrake, MayRelease, LastSampleJustifies}
 use Rattle.history.specs.State.{empty_track, full_capacity, State, empty, start}
 use Rattle.history.specs.Zones.{question}
 use Rattle.history.proofs.Tracked.{Tracks}
-use Rattle.history.proofs.Splits.{stands_none, split_push}
+use Rattle.history.proofs.Splits.{last_push, split_push}
 use Rattle.history.proofs.Tracks.{tracks_start, tracks_step, tracks_sampled, ahead_is, same_front, same_speed}
 use Rattle.history.proofs.Steps.{asks}
-use Rattle.history.specs.Examples.{sheet, tenfold, Worked, accepted_entry, one_target, RuledOut}
+use Rattle.history.specs.Examples.{sheet, tenfold, Worked, accepted_entry, one_ceiling, one_target, RuledOut}
 
 pub worked : Worked
-worked = record { numbers = refl; phases = refl }
+worked = record { numbers = refl; phases = refl; ceiling_numbers = refl; ceiling_phases = refl }
 
 pub tenfold_lawful : Lawful tenfold
 tenfold_lawful = grind arith
+
+off : Free ≡ Emergency → ⊥
+off e = grind arith
+
+warned : Warning ≡ Emergency → ⊥
+warned e = grind arith
+
+-- Where a sample brings the brake on, there is a reason at its front and speed.
+reason : (h : History) (p v : ℕ) → (OnAfter h → ⊥) → KeepsTheLines sheet tenfold (h ++ accepted_entry (sample p v) Emergency ∷ []) → Reason sheet tenfold h p v
+reason h p v was_off k =
+    let w = (k h _ [] refl).for_a_reason was_off refl in
+    subst (λ (x : ℕ). Reason sheet tenfold h p x) (same_speed (record { millimetres = p }) (record { tenths = v }) w.0 w.1 w.2.0)
+    (subst (λ (x : ℕ). Reason sheet tenfold h x w.1) (same_front (record { millimetres = p }) (record { tenths = v }) w.0 w.1 w.2.0) w.3)
+
+-- Where no target is listed and the speed is up to the top, the reason is a ceiling; with no ceiling listed there is none.
+only_a_ceiling : (h : History) (s : State) (p v : ℕ) → Tracks sheet h s → s.track.targets.items ≡ [] → v ≤ 500 → Reason sheet tenfold h p v → (c : SpeedCeiling) × CeilingHolds h p c × FarAbove v c
+only_a_ceiling h s p v k none up (inl fast) = absurd (omega (arith, up, fast))
+only_a_ceiling h s p v k none up (inr (inl w)) = absurd (rw none at (k.targets.listed w.1.0 w.1.2.stands))
+only_a_ceiling h s p v k none up (inr (inr w)) = w
+
+no_reason : (h : History) (s : State) (p v : ℕ) → Tracks sheet h s → s.track.targets.items ≡ [] → s.track.ceilings.items ≡ [] → v ≤ 500 → Reason sheet tenfold h p v → ⊥
+no_reason h s p v k none free up r = let w = only_a_ceiling h s p v k none up r in subst (λ (cs : List SpeedCeiling). In w.0 cs) free (k.ceilings.listed w.0 w.1.stands)
+
+-- What a release right behind a sample says of the history before the sample, its front and its speed.
+abbrev Justified : History → ℕ → ℕ → Type 0
+Justified h p v =
+    (v ≤ 500) × ((t : Target) (q : Question) → Bound sheet tenfold h p v t q → MayRelease (tenfold.verdict q) p t.place) × ((c : SpeedCeiling) → CeilingHolds h p c → v ≤ c.speed)
+
+justified : (h : History) (p v : ℕ) → KeepsTheLines sheet tenfold (h ++ accepted_entry (sample p v) Emergency ∷ accepted_entry release Free ∷ []) → Justified h p v
+justified h p v k =
+    let r : Record = accepted_entry (sample p v) Emergency in
+    let w = ((k (h ++ r ∷ []) _ [] (sym (append_assoc h (r ∷ []) (accepted_entry release Free ∷ [])))).when_justified (last_push Free h r) off).1 in
+    elim (split_push h w.before r w.entry w.last.after w.last.split) [
+      | inl is ↦
+          let c : sample p v ≡ sample w.front w.speed = ap (λ (e : Record). e.call) is.1 ∙ w.sampled.0 in
+          subst (λ (b : History). Justified b p v) (sym is.0)
+          (subst (λ (x : ℕ). Justified w.before p x) (same_speed (record { millimetres = p }) (record { tenths = v }) w.front w.speed c)
+          (subst (λ (x : ℕ). Justified w.before x w.speed) (same_front (record { millimetres = p }) (record { tenths = v }) w.front w.speed c) (w.not_too_fast, w.all_let_go, w.not_above)))
+      | inr older ↦ absurd (w.last.refused older.0 r [] older.1 tt)
+    ]
 
 -- The history with one target is a run's, and this is the state after it.
 abbrev opened : State
 opened = start (empty_track full_capacity)
 
 abbrev sloped : State
-sloped = record { track = record { sections = record { items = record { place = 0; grade = pos 4 } ∷ []; room = 63 }; targets = empty 32 }; phase = Free; clear = false }
+sloped = record { track = record { sections = record { items = record { place = 0; grade = pos 4 } ∷ []; room = 63 }; targets = empty 32; ceilings = empty 48 }; phase = Free; clear = false }
 
 abbrev made : State
-made = record { track = record { sections = sloped.track.sections; targets = record { items = record { number = 7; place = 990; speed = 5 } ∷ []; room = 31 } }; phase = Free; clear = false }
+made = record { track = record { sections = sloped.track.sections; targets = record { items = record { number = 7; place = 990; speed = 5 } ∷ []; room = 31 }; ceilings = empty 48 }; phase = Free; clear = false }
 
 tracked : Tracks sheet one_target made
 tracked = tracks_step sheet tenfold (accepted_entry (slope 0 (pos 4)) Free ∷ []) sloped
@@ -38,8 +79,13 @@ tracked = tracks_step sheet tenfold (accepted_entry (slope 0 (pos 4)) Free ∷ [
 abbrev goal : Target
 goal = record { number = 7; place = 990; speed = 5 }
 
+-- Where it is listed and binds.
+bound : (h : History) (s : State) (p : ℕ) → Tracks sheet h s → In goal s.track.targets.items → Binds tenfold (question s.track.sections.items p 20 goal) →
+    Bound sheet tenfold h p 20 goal (question s.track.sections.items p 20 goal)
+bound h s p k i b = record { stands = k.targets.stands goal i; asks_speed = refl; asks_target = refl; asks_grade = ahead_is sheet h s k p 990; binds = b }
+
 near : Bound sheet tenfold one_target 790 20 goal (question made.track.sections.items 790 20 goal)
-near = record { stands = tracked.target_stands goal (inl refl); asks_speed = refl; asks_target = refl; asks_grade = ahead_is sheet one_target made tracked 790 990; binds = refl }
+near = bound one_target made 790 tracked (inl refl) refl
 
 never : (h : History) → false ≡ true → LastSampleJustifies sheet tenfold h
 never h e = grind arith
@@ -49,7 +95,7 @@ far : (p : ℕ) (t : Target) (q : Question) → Bound sheet tenfold one_target p
 far p t q b may away =
     let e : q ≡ question made.track.sections.items p 20 t = asks sheet tenfold tenfold_lawful one_target made tracked (never one_target) p 20 t q b in
     let may' : MayBrake (tenfold.verdict (question made.track.sections.items p 20 t)) p t.place = subst (λ (q : Question). MayBrake (tenfold.verdict q) p t.place) e may in
-    elim (tracked.target_listed t b.stands) [
+    elim (tracked.targets.listed t b.stands) [
       | inl same ↦
           let may'' : MayBrake (tenfold.verdict (question made.track.sections.items p 20 goal)) p 990 = subst (λ (t : Target). MayBrake (tenfold.verdict (question made.track.sections.items p 20 t)) p t.place) same may' in
           let begun : leb 0 p ≡ true = le-leb 0 p (omega arith) in
@@ -58,25 +104,10 @@ far p t q b may away =
       | inr none ↦ absurd none
     ]
 
-early : (p front speed : ℕ) → sample p 20 ≡ sample front speed → Reason sheet tenfold one_target front speed → p ≤ 699 → ⊥
-early p front speed c (inl fast) away = grind arith
-early p front speed c (inr w) away =
-    let ef : front ≡ p = same_front (record { millimetres = p }) (record { tenths = 20 }) front speed c in
-    let ev : speed ≡ 20 = same_speed (record { millimetres = p }) (record { tenths = 20 }) front speed c in
-    far p w.1.0 w.1.1 (subst (λ (x : ℕ). Bound sheet tenfold one_target p x w.1.0 w.1.1) ev (subst (λ (x : ℕ). Bound sheet tenfold one_target x speed w.1.0 w.1.1) ef w.1.2))
-    (subst (λ (x : ℕ). MayBrake (tenfold.verdict w.1.1) x w.1.0.place) ef w.1.3) away
-
-nothing : (front speed : ℕ) → sample 0 50 ≡ sample front speed → Reason sheet tenfold [] front speed → ⊥
-nothing front speed c (inl fast) = grind arith
-nothing front speed c (inr w) = stands_none sheet w.1.0 w.1.2.stands
-
-soon : LastSampleJustifies sheet tenfold (accepted_entry (sample 0 51) Emergency ∷ []) → ⊥
-soon w =
-    elim (split_push [] w.before (accepted_entry (sample 0 51) Emergency) w.entry w.last.after w.last.split) [
-      | inl p ↦
-          grind arith
-      | inr p ↦ grind arith
-    ]
+early : (p : ℕ) → p ≤ 699 → Reason sheet tenfold one_target p 20 → ⊥
+early p away (inl fast) = grind arith
+early p away (inr (inl w)) = far p w.1.0 w.1.1 w.1.2 w.1.3 away
+early p away (inr (inr w)) = tracked.ceilings.listed w.0 w.1.stands
 
 -- 250 before the target, after the brake came on.
 abbrev braked : History
@@ -89,34 +120,23 @@ braking = record made { phase = Emergency }
 braked_tracked : Tracks sheet braked braking
 braked_tracked = tracks_sampled sheet one_target made tracked 790 20 Emergency (Ok None)
 
-yet : LastSampleJustifies sheet tenfold (braked ++ accepted_entry (sample 740 20) Emergency ∷ []) → ⊥
+yet : Justified braked 740 20 → ⊥
 yet w =
-    let r : Record = accepted_entry (sample 740 20) Emergency in
-    elim (split_push braked w.before r w.entry w.last.after w.last.split) [
-      | inl p ↦
-          let c : sample 740 20 ≡ sample w.front w.speed = ap (λ (e : Record). e.call) p.1 ∙ w.sampled.0 in
-          let ef : w.front ≡ 740 = same_front (record { millimetres = 740 }) (record { tenths = 20 }) w.front w.speed c in
-          let ev : w.speed ≡ 20 = same_speed (record { millimetres = 740 }) (record { tenths = 20 }) w.front w.speed c in
-          let q : Question = question made.track.sections.items 740 20 goal in
-          let b : Bound sheet tenfold braked 740 20 goal (question made.track.sections.items 740 20 goal) = record { stands = braked_tracked.target_stands goal (inl refl); asks_speed = refl; asks_target = refl; asks_grade = ahead_is sheet braked braking braked_tracked 740 990; binds = refl } in
-          let b' : Bound sheet tenfold w.before w.front w.speed goal (question made.track.sections.items 740 20 goal) = grind arith in
-          let short : MayRelease (tenfold.verdict (question made.track.sections.items 740 20 goal)) 740 990 = subst (λ (x : ℕ). MayRelease (tenfold.verdict q) x 990) ef (w.all_let_go goal q b') in
-          omega (arith, short)
-      | inr p ↦ w.last.refused p.0 r [] p.1 tt
-    ]
+    let short : MayRelease (tenfold.verdict (question made.track.sections.items 740 20 goal)) 740 990 = w.1 goal _ (bound braked braking 740 braked_tracked (inl refl) refl) in
+    omega (arith, short)
 
 -- A target with no section known.
 abbrev lone : History
 lone = accepted_entry (announce 7 905 95 5) Free ∷ []
 
 abbrev alone : State
-alone = record { track = record { sections = empty 64; targets = made.track.targets }; phase = Free; clear = false }
+alone = record { track = record { sections = empty 64; targets = made.track.targets; ceilings = empty 48 }; phase = Free; clear = false }
 
 lone_tracked : Tracks sheet lone alone
 lone_tracked = tracks_step sheet tenfold [] opened (tracks_start sheet full_capacity) (announce 7 905 95 5)
 
 steep : Bound sheet tenfold lone 0 20 goal (question [] 0 20 goal)
-steep = record { stands = lone_tracked.target_stands goal (inl refl); asks_speed = refl; asks_target = refl; asks_grade = ahead_is sheet lone alone lone_tracked 0 990; binds = refl }
+steep = bound lone alone 0 lone_tracked (inl refl) refl
 
 -- No target left.
 abbrev ended : History
@@ -125,28 +145,65 @@ ended = one_target ++ accepted_entry (withdraw 7) Free ∷ []
 ended_tracked : Tracks sheet ended sloped
 ended_tracked = tracks_step sheet tenfold one_target made tracked (withdraw 7)
 
-gone : (front speed : ℕ) → sample 790 20 ≡ sample front speed → Reason sheet tenfold ended front speed → ⊥
-gone front speed c (inl fast) = grind arith
-gone front speed c (inr w) = ended_tracked.target_listed w.1.0 w.1.2.stands
+-- A ceiling of 30 from the place 100 on: the state after it.
+abbrev under : State
+under = record { track = record { sections = empty 64; targets = empty 32; ceilings = record { items = record { place = 100; speed = 30 } ∷ []; room = 47 } }; phase = Free; clear = false }
 
-off : Free ≡ Emergency → ⊥
-off e = grind arith
+under_tracked : Tracks sheet one_ceiling under
+under_tracked = tracks_step sheet tenfold [] opened (tracks_start sheet full_capacity) (ceiling_from 100 30)
 
-warned : Warning ≡ Emergency → ⊥
-warned e = grind arith
+abbrev the_ceiling : SpeedCeiling
+the_ceiling = record { place = 100; speed = 30 }
+
+-- Where that ceiling alone stands, it holds from its place on.
+holds : (h : History) (s : State) → Tracks sheet h s → s.track.ceilings.items ≡ the_ceiling ∷ [] → CeilingHolds h 100 the_ceiling
+holds h s k e = record {
+  stands = k.ceilings.stands the_ceiling (rw e (inl refl));
+  begun = omega arith;
+  last = λ d a l. elim (rw e at (k.ceilings.listed d a)) [ inl same ↦ subst (λ (x : SpeedCeiling). x.place ≤ 100) (sym same) (omega arith) | inr none ↦ absurd none ];
+}
+
+-- A reason for that ceiling: it has begun, and the speed is more than 100 above it.
+for_the_ceiling : (p v : ℕ) → v ≤ 500 → Reason sheet tenfold one_ceiling p v → (100 ≤ p) × (130 < v)
+for_the_ceiling p v up r =
+    let w = only_a_ceiling one_ceiling under p v under_tracked refl up r in
+    elim (under_tracked.ceilings.listed w.0 w.1.stands) [
+      | inl same ↦ subst (λ (x : SpeedCeiling). (x.place ≤ p) × FarAbove v x) same (w.1.begun, w.2)
+      | inr none ↦ absurd none
+    ]
+
+-- That ceiling lifted.
+abbrev free_again : History
+free_again = one_ceiling ++ accepted_entry (lift 100) Free ∷ []
+
+free_tracked : Tracks sheet free_again opened
+free_tracked = tracks_step sheet tenfold one_ceiling under under_tracked (lift 100)
+
+-- The brake is on for that ceiling.
+abbrev held_down : History
+held_down = one_ceiling ++ accepted_entry (sample 100 131) Emergency ∷ []
+
+held_tracked : Tracks sheet held_down (record under { phase = Emergency })
+held_tracked = tracks_sampled sheet one_ceiling under under_tracked 100 131 Emergency (Ok None)
 
 pub ruled_out : RuledOut
 ruled_out = record {
-  too_fast = λ k. let l : Lines sheet tenfold [] (accepted_entry (sample 0 51) Free) = k [] _ [] refl in off (l.in_time.too_fast 0 51 (refl, tt) (lit< tt));
+  too_fast = λ k. let l : Lines sheet tenfold [] (accepted_entry (sample 0 501) Free) = k [] _ [] refl in off (l.in_time.too_fast 0 501 (refl, tt) (lit< tt));
   too_near = λ k. let l : Lines sheet tenfold one_target (accepted_entry (sample 790 20) Warning) = k one_target _ [] refl in
       warned (l.in_time.too_near 790 20 (refl, tt) (lit≤ tt) goal _ near (lit≤ tt));
-  for_nothing = λ k. let l : Lines sheet tenfold [] (accepted_entry (sample 0 50) Emergency) = k [] _ [] refl in let w = l.for_a_reason off refl in nothing w.0 w.1 w.2.0 w.3;
-  too_early = λ k. let l : Lines sheet tenfold one_target _ = k one_target _ [] refl in let w = l.for_a_reason off refl in early _ w.0 w.1 w.2.0 w.3 (omega arith);
-  unasked = λ k. let l : Lines sheet tenfold (accepted_entry (sample 0 51) Emergency ∷ []) (accepted_entry (sample 0 20) Free) = k (_ ∷ []) _ [] refl in
+  for_nothing = λ k. no_reason [] opened 0 500 (tracks_start sheet full_capacity) refl refl (lit≤ tt) (reason [] 0 500 off k);
+  too_early = λ k. early 699 (lit≤ tt) (reason one_target 699 20 off k);
+  unasked = λ k. let l : Lines sheet tenfold (accepted_entry (sample 0 501) Emergency ∷ []) (accepted_entry (sample 0 20) Free) = k (_ ∷ []) _ [] refl in
       grind arith;
-  too_soon = λ k. let l : Lines sheet tenfold (accepted_entry (sample 0 51) Emergency ∷ []) (accepted_entry release Free) = k (_ ∷ []) _ [] refl in soon (l.when_justified refl off).1;
-  not_yet = λ k. let l : Lines sheet tenfold (braked ++ accepted_entry (sample 740 20) Emergency ∷ []) (accepted_entry release Free) = k (braked ++ accepted_entry (sample 740 20) Emergency ∷ []) _ [] refl in yet (l.when_justified refl off).1;
+  too_soon = λ k. let w = justified [] 0 501 k in omega (arith, w.0);
+  not_yet = λ k. yet (justified braked 740 20 k);
   unknown_grade = λ k. let l : Lines sheet tenfold lone (accepted_entry (sample 0 20) Free) = k lone _ [] refl in off (l.in_time.too_near 0 20 (refl, tt) (lit≤ tt) goal _ steep tt);
-  withdrawn = λ k. let l : Lines sheet tenfold ended (accepted_entry (sample 790 20) Emergency) = k ended _ [] refl in let w = l.for_a_reason off refl in gone w.0 w.1 w.2.0 w.3;
+  withdrawn = λ k. no_reason ended sloped 790 20 ended_tracked refl refl (lit≤ tt) (reason ended 790 20 off k);
+  far_above = λ k. let l : Lines sheet tenfold one_ceiling (accepted_entry (sample 100 131) Warning) = k one_ceiling _ [] refl in
+      warned (l.in_time.too_far_above 100 131 (refl, tt) the_ceiling (holds one_ceiling under under_tracked refl) (lit< tt));
+  near_above = λ k. let w = for_the_ceiling 100 130 (lit≤ tt) (reason one_ceiling 100 130 off k) in omega (arith, w.1);
+  before_it = λ k. let w = for_the_ceiling 99 131 (lit≤ tt) (reason one_ceiling 99 131 off k) in omega (arith, w.0);
+  lifted = λ k. no_reason free_again opened 100 131 free_tracked refl refl (lit≤ tt) (reason free_again 100 131 off k);
+  still_above = λ k. let w = (justified held_down 100 31 k).2 the_ceiling (holds held_down _ held_tracked refl) in omega (arith, w);
   no_sample = λ k. let l : Lines sheet tenfold [] (accepted_entry (slope 0 (pos 4)) Emergency) = k [] _ [] refl in let w = l.for_a_reason off refl in grind arith;
 }

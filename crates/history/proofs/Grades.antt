@@ -1,63 +1,32 @@
 -- The computed grade of a stretch is the least grade over its places.
 use Rattle.std.proofs.lemmas.Bool.Decides.{nat_tests}
 use Rattle.std.proofs.Common.{rules}
-use Rattle.std.proofs.Common.{◌≡◌, ℕ, ◌<◌, ◌≤◌, true, false, cond, leb, ◌⊎◌, List, [], ◌∷◌, ℤ, ◌≤ℤ◌, sym, refl, ap, ◌∙◌, inl, inr, arith}
+use Rattle.std.proofs.Common.{◌≡◌, ℕ, ◌<◌, ◌≤◌, true, false, leb, ◌⊎◌, List, [], ◌∷◌, ℤ, ◌≤ℤ◌, sym, refl, ◌∙◌, inl, inr, arith}
 use lib.Signed.{≤ℤ_refl}
 use Rattle.std.specs.Int.{int_min}
-use Rattle.std.proofs.lemmas.Bool.{cases_lt, le-leb, lt-leb, cond_both, leb-true, leb-false}
+use Rattle.std.proofs.lemmas.Bool.{cases_lt, le-leb, lt-leb, cond_both}
 use Rattle.place_list.specs.Membership.{In}
 use Rattle.history.specs.History.{Section}
 use Rattle.history.specs.State.{is_unfit}
-use Rattle.history.specs.Zones.{least_grade}
-use Rattle.history.proofs.Tracked.{Above, Ascends, above_ascends}
+use Rattle.history.specs.Zones.{held_at, least_grade}
+use Rattle.history.proofs.Begun.{ValueIn, held_is, held_one}
+use Rattle.history.proofs.Tracked.{Above, Ascends, above_ascends, section_place}
 
-pub above_in : (p : ℕ) (xs : List Section) → Above p xs → (y : Section) → In y xs → p < y.place
-above_in p [] h y i = absurd i
-above_in p (x ∷ xs) h y (inl e) = grind arith
-above_in p (x ∷ xs) h y (inr i) = let k : x.place < y.place = above_in x.place xs h.1 y i in omega arith
+abbrev section_grade : Section → ℤ
+section_grade x = x.grade
 
 -- The grade at p by the list, where d holds before its first section.
 abbrev pub grade_in : ℤ → List Section → ℕ → ℤ
-grade_in d [] p = d
-grade_in d (x ∷ xs) p = cond (leb x.place p) (grade_in x.grade xs p) d
-
--- x is the last of the list that begins up to p.
-abbrev pub LastBegun : List Section → ℕ → Section → Type 0
-LastBegun xs p x = In x xs × (x.place ≤ p) × ((y : Section) → In y xs → y.place ≤ p → y.place ≤ x.place)
+grade_in d xs p = held_at section_place section_grade d xs p
 
 abbrev pub GradeIn : ℤ → List Section → ℕ → ℤ → Type 0
-GradeIn d xs p g = ((x : Section) × LastBegun xs p x × (x.grade ≡ g)) ⊎ (((y : Section) → In y xs → p < y.place) × (g ≡ d))
+GradeIn d xs p g = ValueIn section_place section_grade d xs p g
 
--- What holds of the rest holds of the whole, once the first has begun.
-begun : (d : ℤ) (x : Section) (xs : List Section) (p : ℕ) (g : ℤ) → Above x.place xs → x.place ≤ p → GradeIn x.grade xs p g → GradeIn d (x ∷ xs) p g
-begun d x xs p g a l (inl w) =
-    let above : x.place < w.0.place = above_in x.place xs a w.0 w.1.0 in
-    inl (w.0, (inr w.1.0, w.1.1, λ y i k. grind arith), w.2)
-begun d x xs p g a l (inr w) = grind arith
+pub grade_in_is : (d : ℤ) (xs : List Section) (p : ℕ) → Ascends section_place xs → GradeIn d xs p (grade_in d xs p)
+grade_in_is d xs p a = held_is section_place section_grade d xs p a
 
-pub grade_in_is : (d : ℤ) (xs : List Section) (p : ℕ) → Ascends xs → GradeIn d xs p (grade_in d xs p)
-grade_in_is d [] p a = grind arith
-grade_in_is d (x ∷ xs) p a =
-    cond_both (leb x.place p) (grade_in x.grade xs p) d (λ (g : ℤ). GradeIn d (x ∷ xs) p g)
-    (λ e. begun d x xs p _ a (leb-true x.place p e) (grade_in_is x.grade xs p (above_ascends x.place xs a)))
-    (λ e. let l : p < x.place = leb-false x.place p e in
-    inr ((λ y i. elim i [ inl k ↦ grind arith | inr j ↦ omega (arith, above_in x.place xs a y j) ]), refl))
-
--- A place has one section.
-one_section : (xs : List Section) → Ascends xs → (x y : Section) → In x xs → In y xs → x.place ≡ y.place → x ≡ y
-one_section [] a x y i j e = absurd i
-one_section (z ∷ zs) a x y (inl i) (inl j) e = i ∙ sym j
-one_section (z ∷ zs) a x y (inl i) (inr j) e = grind (arith, above_in z.place zs a y j)
-one_section (z ∷ zs) a x y (inr i) (inl j) e = grind (arith, above_in z.place zs a x i)
-one_section (z ∷ zs) a x y (inr i) (inr j) e = one_section zs (above_ascends z.place zs a) x y i j e
-
-pub grade_in_one : (d : ℤ) (xs : List Section) (p : ℕ) (g k : ℤ) → Ascends xs → GradeIn d xs p g → GradeIn d xs p k → g ≡ k
-grade_in_one d xs p g k a (inl v) (inl w) =
-    let same : v.0 ≡ w.0 = one_section xs a v.0 w.0 v.1.0 w.1.0 (grind arith) in
-    sym v.2 ∙ (ap (λ (s : Section). s.grade) same ∙ w.2)
-grade_in_one d xs p g k a (inl v) (inr w) = grind arith
-grade_in_one d xs p g k a (inr v) (inl w) = grind arith
-grade_in_one d xs p g k a (inr v) (inr w) = v.1 ∙ sym w.1
+pub grade_in_one : (d : ℤ) (xs : List Section) (p : ℕ) (g k : ℤ) → Ascends section_place xs → GradeIn d xs p g → GradeIn d xs p k → g ≡ k
+grade_in_one d xs p g k a v w = held_one section_place section_grade d xs p g k a v w
 
 min_right : (a b : ℤ) → int_min a b ≤ℤ b
 min_right a b = grind arith
@@ -66,12 +35,12 @@ min_either : (a b : ℤ) → (int_min a b ≡ a) ⊎ (int_min a b ≡ b)
 min_either a b = grind arith
 
 -- Up to where the sections begin, d holds.
-early : (d : ℤ) (q : ℕ) (xs : List Section) (p : ℕ) → Above q xs → p ≤ q → grade_in d xs p ≡ d
+early : (d : ℤ) (q : ℕ) (xs : List Section) (p : ℕ) → Above section_place q xs → p ≤ q → grade_in d xs p ≡ d
 early d q [] p a l = refl
 early d q (x ∷ xs) p a l = grind arith
 
 -- Beyond the front the value only falls, and stays at or below the grade at each place that is still to come.
-falls : (a d : ℤ) (front place q : ℕ) (xs : List Section) → front ≤ q → Above q xs → a ≤ℤ d →
+falls : (a d : ℤ) (front place q : ℕ) (xs : List Section) → front ≤ q → Above section_place q xs → a ≤ℤ d →
     (least_grade a front place xs ≤ℤ a) × ((p : ℕ) → p ≤ place → least_grade a front place xs ≤ℤ grade_in d xs p)
 falls a d front place q [] f k l = grind arith
 falls a d front place q (x ∷ xs) f k l =
@@ -86,7 +55,7 @@ falls a d front place q (x ∷ xs) f k l =
     )
 
 -- The computed grade is at most that at each place of the stretch.
-pub least_below : (d : ℤ) (front place : ℕ) (xs : List Section) → Ascends xs → (p : ℕ) → front ≤ p → p ≤ place → least_grade d front place xs ≤ℤ grade_in d xs p
+pub least_below : (d : ℤ) (front place : ℕ) (xs : List Section) → Ascends section_place xs → (p : ℕ) → front ≤ p → p ≤ place → least_grade d front place xs ≤ℤ grade_in d xs p
 least_below d front place [] a p l m = ≤ℤ_refl d
 least_below d front place (x ∷ xs) a p l m =
     elim (cases_lt front x.place) [
@@ -94,11 +63,11 @@ least_below d front place (x ∷ xs) a p l m =
       | inr before ↦
           let f : leb x.place front ≡ true = grind arith in
           let h : leb x.place p ≡ true = grind arith in
-          rw (f, h) (least_below x.grade front place xs (above_ascends x.place xs a) p l m)
+          rw (f, h) (least_below x.grade front place xs (above_ascends section_place x.place xs a) p l m)
     ]
 
 -- Beyond the front it is the value so far, or the grade at a place that is still to come.
-comes_from : (a d : ℤ) (front place q : ℕ) (xs : List Section) → front ≤ q → Above q xs →
+comes_from : (a d : ℤ) (front place q : ℕ) (xs : List Section) → front ≤ q → Above section_place q xs →
     (least_grade a front place xs ≡ a) ⊎ ((p : ℕ) × (q ≤ p) × (p ≤ place) × (grade_in d xs p ≡ least_grade a front place xs))
 comes_from a d front place q [] f k = inl refl
 comes_from a d front place q (x ∷ xs) f k =
@@ -120,7 +89,7 @@ comes_from a d front place q (x ∷ xs) f k =
     ]
 
 -- The computed grade is the grade at some place of the stretch.
-pub least_reached : (d : ℤ) (front place : ℕ) (xs : List Section) → Ascends xs → front ≤ place → (p : ℕ) × (front ≤ p) × (p ≤ place) × (grade_in d xs p ≡ least_grade d front place xs)
+pub least_reached : (d : ℤ) (front place : ℕ) (xs : List Section) → Ascends section_place xs → front ≤ place → (p : ℕ) × (front ≤ p) × (p ≤ place) × (grade_in d xs p ≡ least_grade d front place xs)
 least_reached d front place [] a o = search rules
 least_reached d front place (x ∷ xs) a o =
     elim (cases_lt front x.place) [
@@ -130,7 +99,7 @@ least_reached d front place (x ∷ xs) a o =
       ]
       | inr before ↦
           let f : leb x.place front ≡ true = le-leb x.place front before in
-          let r = least_reached x.grade front place xs (above_ascends x.place xs a) o in
+          let r = least_reached x.grade front place xs (above_ascends section_place x.place xs a) o in
           let h : leb x.place r.0 ≡ true = grind arith in
           (r.0, r.1, r.2, rw (f, h) r.3)
     ]

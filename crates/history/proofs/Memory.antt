@@ -5,7 +5,7 @@ use Rattle.units.specs.declared.quantities.Speed.{Speed}
 use Rattle.sheet.specs.declared.values.Values.{Values}
 use Rattle.braking.specs.Meaning.{Meaning}
 use Rattle.calls.specs.declared.call.Call.{Call}
-use Rattle.calls.specs.declared.call.Call.TheVariants.{Slope, Announce, Withdraw, Sample, Release}
+use Rattle.calls.specs.declared.call.Call.TheVariants.{Slope, Announce, Withdraw, Ceiling, Lift, Sample, Release}
 use Rattle.calls.specs.declared.record.Record.{Record}
 use Rattle.calls.specs.declared.refusal.Refusal.{Refusal}
 use Rattle.calls.specs.declared.zone.Zone.{Zone}
@@ -79,6 +79,8 @@ module _ (sheet : Values) (m : Meaning) (h : History) (s : State) (remembered : 
   done (Slope p g) = quiet h (Slope p g) (does sheet m s (Slope p g)) refl refl
   done (Announce n p d v) = quiet h (Announce n p d v) (does sheet m s (Announce n p d v)) refl refl
   done (Withdraw n) = quiet h (Withdraw n) (does sheet m s (Withdraw n)) refl refl
+  done (Ceiling p v) = quiet h (Ceiling p v) (does sheet m s (Ceiling p v)) refl refl
+  done (Lift p) = quiet h (Lift p) (does sheet m s (Lift p)) refl refl
   done (Sample p v) = sampled p v
   done Release = quiet h Release (does sheet m s Release) refl refl
 

@@ -8,16 +8,16 @@ use Rattle.calls.specs.declared.call.Call.{Call}
 use Rattle.calls.specs.declared.record.Record.{Record}
 use Rattle.history.specs.Agrees.{Agrees}
 use Rattle.history.specs.History.{History}
-use Rattle.history.specs.Lines.{HasOneGrade, Lines, KeepsTheLines}
+use Rattle.history.specs.Lines.{HasOneCeilingAtMost, HasOneGrade, Lines, KeepsTheLines}
 use Rattle.history.specs.State.{empty_track, State, Valid, start}
 use Rattle.history.specs.Step.{step}
 use Rattle.history.specs.Runs.{entry_of, run, state_after}
-use Rattle.history.specs.Theorem.{EveryRunKeepsTheLines, EveryStretchHasOneGrade, EveryStepAgrees, TheStartAgrees}
+use Rattle.history.specs.Theorem.{EveryRunKeepsTheLines, EveryStretchHasOneGrade, EveryStepAgrees, EveryPlaceHasOneCeilingAtMost, TheStartAgrees}
 use Rattle.history.proofs.Memory.{remembers}
 use Rattle.history.proofs.Splits.{nil_split, not_true, split_push}
 use Rattle.history.proofs.Steps.{good_step}
-use Rattle.history.proofs.Tracked.{Tracks, valid_ascends, valid_distinct, valid_fit}
-use Rattle.history.proofs.Tracks.{tracks_start, tracks_step, ahead_is, ahead_one}
+use Rattle.history.proofs.Tracked.{Tracks}
+use Rattle.history.proofs.Tracks.{tracks_start, tracks_step, ahead_is, ahead_one, one_ceiling_there}
 use Rattle.history.proofs.Validity.{step_valid}
 
 keeps_none : (sheet : Values) (m : Meaning) → KeepsTheLines sheet m []
@@ -34,13 +34,10 @@ keeps_push sheet m h r k l before e after p =
 tracks_of : (sheet : Values) (m : Meaning) (h : History) (s : State) → Valid s.track → Agrees sheet m h s → Tracks sheet h s
 tracks_of sheet m h s v a = record {
   phase = a.phase;
-  section_listed = a.section_listed;
-  section_stands = a.section_stands;
-  ascends = valid_ascends s.track.sections.items v.sections;
-  fit = valid_fit s.track.sections.items v.sections;
-  target_listed = a.target_listed;
-  target_stands = a.target_stands;
-  distinct = valid_distinct s.track.targets.items v.targets;
+  sections = a.sections;
+  targets = a.targets;
+  ceilings = a.ceilings;
+  valid = v;
 }
 
 one_grade_there : (sheet : Values) (h : History) (s : State) → Tracks sheet h s → HasOneGrade h
@@ -52,11 +49,11 @@ start_agrees sheet m capacity =
     record {
       lines = keeps_none sheet m;
       phase = refl;
-      section_listed = k.section_listed;
-      section_stands = k.section_stands;
-      target_listed = k.target_listed;
-      target_stands = k.target_stands;
+      sections = k.sections;
+      targets = k.targets;
+      ceilings = k.ceilings;
       one_grade = one_grade_there sheet [] (start (empty_track capacity)) k;
+      one_ceiling = one_ceiling_there sheet [] (start (empty_track capacity)) k;
       remembered = λ w. absurd (nil_split w.before w.entry w.last.after w.last.split);
       answered = not_true;
       justified = not_true;
@@ -71,11 +68,11 @@ step_agrees sheet m law h s v a c =
     record {
       lines = keeps_push sheet m h (entry_of c (step sheet m s c)) a.lines good.0;
       phase = k'.phase;
-      section_listed = k'.section_listed;
-      section_stands = k'.section_stands;
-      target_listed = k'.target_listed;
-      target_stands = k'.target_stands;
+      sections = k'.sections;
+      targets = k'.targets;
+      ceilings = k'.ceilings;
       one_grade = one_grade_there sheet (h ++ entry_of c (step sheet m s c) ∷ []) (step sheet m s c).state k';
+      one_ceiling = one_ceiling_there sheet (h ++ entry_of c (step sheet m s c) ∷ []) (step sheet m s c).state k';
       remembered = mine.remembered;
       answered = mine.answered;
       justified = good.1;
@@ -92,22 +89,26 @@ run_agrees sheet m law (c ∷ cs) h s v a =
     (run_agrees sheet m law cs (h ++ e ∷ []) next (step_valid sheet m s v c) (step_agrees sheet m law h s v a c))
 
 pub every_run : EveryRunKeepsTheLines
-every_run sheet m law capacity calls = (run_agrees sheet m law calls [] (start (empty_track capacity)) (record { sections = refl; targets = refl }) (start_agrees sheet m capacity)).lines
+every_run sheet m law capacity calls = (run_agrees sheet m law calls [] (start (empty_track capacity)) (record { sections = refl; targets = refl; ceilings = refl }) (start_agrees sheet m capacity)).lines
 
--- The grades at each entry of a run that goes on from h.
-grades : (sheet : Values) (m : Meaning) (cs : List Call) (h : History) (s : State) → Tracks sheet h s →
-    (before : History) (e : Record) (after : History) → run sheet m s cs ≡ before ++ e ∷ after → HasOneGrade (h ++ before)
-grades sheet m [] h s k before e after p = absurd (nil_split before e after p)
-grades sheet m (c ∷ cs) h s k [] e after p = rw append-nil (one_grade_there sheet h s k)
-grades sheet m (c ∷ cs) h s k (b ∷ bs) e after p =
-    let first : entry_of c (step sheet m s c) ≡ b = cc in
-    let rest : run sheet m (step sheet m s c).state cs ≡ bs ++ e ∷ after = cc in
-    let goes : HasOneGrade ((h ++ entry_of c (step sheet m s c) ∷ []) ++ bs) =
-    grades sheet m cs (h ++ entry_of c (step sheet m s c) ∷ []) (step sheet m s c).state (tracks_step sheet m h s k c) bs e after rest in
-    subst (λ (x : Record). HasOneGrade (h ++ x ∷ bs)) first (subst HasOneGrade (append_assoc h (entry_of c (step sheet m s c) ∷ []) bs) goes)
+-- What holds of every history that a state tracks holds before each entry of a run that goes on from h.
+module _ (sheet : Values) (m : Meaning) (Holds : History → Type 0) (tracked : (h : History) (s : State) → Tracks sheet h s → Holds h) where
+  at_each : (cs : List Call) (h : History) (s : State) → Tracks sheet h s →
+      (before : History) (e : Record) (after : History) → run sheet m s cs ≡ before ++ e ∷ after → Holds (h ++ before)
+  at_each [] h s k before e after p = absurd (nil_split before e after p)
+  at_each (c ∷ cs) h s k [] e after p = rw append-nil (tracked h s k)
+  at_each (c ∷ cs) h s k (b ∷ bs) e after p =
+      let first : entry_of c (step sheet m s c) ≡ b = cc in
+      let rest : run sheet m (step sheet m s c).state cs ≡ bs ++ e ∷ after = cc in
+      let goes : Holds ((h ++ entry_of c (step sheet m s c) ∷ []) ++ bs) =
+      at_each cs (h ++ entry_of c (step sheet m s c) ∷ []) (step sheet m s c).state (tracks_step sheet m h s k c) bs e after rest in
+      subst (λ (x : Record). Holds (h ++ x ∷ bs)) first (subst Holds (append_assoc h (entry_of c (step sheet m s c) ∷ []) bs) goes)
 
 pub one_grade : EveryStretchHasOneGrade
-one_grade sheet m capacity calls = grades sheet m calls [] (start (empty_track capacity)) (tracks_start sheet capacity)
+one_grade sheet m capacity calls = at_each sheet m HasOneGrade (one_grade_there sheet) calls [] (start (empty_track capacity)) (tracks_start sheet capacity)
+
+pub one_ceiling : EveryPlaceHasOneCeilingAtMost
+one_ceiling sheet m capacity calls = at_each sheet m HasOneCeilingAtMost (one_ceiling_there sheet) calls [] (start (empty_track capacity)) (tracks_start sheet capacity)
 
 pub run_push : (sheet : Values) (m : Meaning) (s : State) (cs : List Call) (c : Call) →
     run sheet m s (cs ++ c ∷ []) ≡ run sheet m s cs ++ entry_of c (step sheet m (state_after sheet m s cs) c) ∷ []

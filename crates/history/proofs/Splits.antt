@@ -1,10 +1,9 @@
 -- What one more entry does to a history: how it splits, and what then stands.
-use Rattle.std.proofs.Common.{◌≡◌, ℕ, ◌⊎◌, false, true, [], ◌∷◌, ◌++◌, sym, refl, ap, ◌∙◌, subst, inl, inr, append_assoc, arith}
+use Rattle.std.proofs.Common.{◌≡◌, ◌⊎◌, false, true, [], ◌∷◌, ◌++◌, sym, refl, ap, ◌∙◌, subst, inl, inr, append_assoc, arith}
 use Rattle.calls.specs.declared.call.Call.{Call}
 use Rattle.calls.specs.declared.phase.Phase.{Phase}
 use Rattle.calls.specs.declared.record.Record.{Record}
-use Rattle.sheet.specs.declared.values.Values.{Values}
-use Rattle.history.specs.History.{History, Target, Accepts, AcceptedIn, WasAccepted, TargetStands, target_place, announce, withdraw}
+use Rattle.history.specs.History.{History, Accepts, AcceptedIn, StandsSince, WasAccepted}
 use Rattle.history.specs.Lines.{LastAccepted, last_phase}
 
 pub not_true : {P : Type 0} → false ≡ true → P
@@ -73,31 +72,33 @@ accepted_cases h c r a =
 pub accepted_none : (c : Call) → AcceptedIn [] c → ⊥
 accepted_none c a = nil_split a.before a.entry a.after a.split
 
-module _ (sheet : Values) (h : History) (t : Target) (r : Record) where
-  pub stands_more : TargetStands sheet h t → (Accepts r (withdraw t.number) → ⊥) → TargetStands sheet (h ++ r ∷ []) t
+-- What stands behind one more entry.
+module _ (h : History) (adds : Call → Type 0) (takes_out : Call) (r : Record) where
+  pub stands_more : StandsSince h adds takes_out → (Accepts r takes_out → ⊥) → StandsSince (h ++ r ∷ []) adds takes_out
   stands_more a n = record {
     before = a.before;
     entry = a.entry;
     after = a.after ++ r ∷ [];
-    point = a.point;
-    distance = a.distance;
     split = longer h a.before a.entry a.after r a.split;
-    announced = a.announced;
-    placed = a.placed;
-    kept = λ w. elim (accepted_cases a.after (withdraw t.number) r w) [ inl k ↦ a.kept k | inr k ↦ n k ];
+    added = a.added;
+    accepted = a.accepted;
+    kept = λ w. elim (accepted_cases a.after takes_out r w) [ inl k ↦ a.kept k | inr k ↦ n k ];
   }
 
-  pub stands_new : (point distance : ℕ) → Accepts r (announce t.number point distance t.speed) → t.place ≡ target_place sheet point distance → TargetStands sheet (h ++ r ∷ []) t
-  stands_new point distance a p = record { before = h; entry = r; after = []; point = point; distance = distance; split = refl; announced = a; placed = p; kept = accepted_none (withdraw t.number) }
+  pub stands_new : adds r.call → WasAccepted r.answer → StandsSince (h ++ r ∷ []) adds takes_out
+  stands_new a acc = record { before = h; entry = r; after = []; split = refl; added = a; accepted = acc; kept = accepted_none takes_out }
 
-  pub stands_cases : TargetStands sheet (h ++ r ∷ []) t →
-      (TargetStands sheet h t × (Accepts r (withdraw t.number) → ⊥)) ⊎ ((point : ℕ) × (distance : ℕ) × Accepts r (announce t.number point distance t.speed) × (t.place ≡ target_place sheet point distance))
+  pub stands_cases : StandsSince (h ++ r ∷ []) adds takes_out → (StandsSince h adds takes_out × (Accepts r takes_out → ⊥)) ⊎ (adds r.call × WasAccepted r.answer)
   stands_cases a =
       elim (split_push h a.before r a.entry a.after a.split) [
-        | inl w ↦ grind arith
-        | inr w ↦ let kept : AcceptedIn (w.0 ++ r ∷ []) (withdraw t.number) → ⊥ = grind arith in
-            inl (record { before = a.before; entry = a.entry; after = w.0; point = a.point; distance = a.distance; split = w.2; announced = a.announced; placed = a.placed; kept = λ k. kept (accepted_more r k) }, λ k. grind arith)
+        | inl w ↦ inr (subst (λ (e : Record). adds e.call) (sym w.1) a.added, subst (λ (e : Record). WasAccepted e.answer) (sym w.1) a.accepted)
+        | inr w ↦
+            let kept : AcceptedIn (w.0 ++ r ∷ []) takes_out → ⊥ = subst (λ (l : History). AcceptedIn l takes_out → ⊥) w.1 a.kept in
+            inl (
+              record { before = a.before; entry = a.entry; after = w.0; split = w.2; added = a.added; accepted = a.accepted; kept = λ k. kept (accepted_more r k) },
+              λ k. kept (accepted_new w.0 r k),
+            )
       ]
 
-pub stands_none : (sheet : Values) (t : Target) → TargetStands sheet [] t → ⊥
-stands_none sheet t a = nil_split a.before a.entry a.after a.split
+pub stands_none : (adds : Call → Type 0) (takes_out : Call) → StandsSince [] adds takes_out → ⊥
+stands_none adds takes_out a = nil_split a.before a.entry a.after a.split

@@ -6,24 +6,27 @@ use Rattle.units.specs.declared.quantities.Speed.{Speed}
 use Rattle.braking.specs.Laws.{Lawful, Sound}
 use Rattle.braking.specs.Meaning.{Meaning, Question, Asked, Binds}
 use Rattle.calls.specs.declared.call.Call.{Call}
-use Rattle.calls.specs.declared.call.Call.TheVariants.{Slope, Announce, Withdraw, Sample, Release}
+use Rattle.calls.specs.declared.call.Call.TheVariants.{Slope, Announce, Withdraw, Ceiling, Lift, Sample, Release}
 use Rattle.calls.specs.declared.phase.Phase.{Phase}
 use Rattle.calls.specs.declared.phase.Phase.TheVariants.{Free, Warning, Emergency}
 use Rattle.calls.specs.declared.record.Record.{Record}
 use Rattle.calls.specs.declared.refusal.Refusal.{Refusal}
+use Rattle.calls.specs.declared.zone.Zone.{Zone}
+use Rattle.calls.specs.Zones.{max_zone}
 use Rattle.calls.specs.declared.zone.Zone.TheVariants as zones
 use Rattle.sheet.specs.declared.values.Values.{Values}
-use Rattle.history.specs.History.{History, Target, Accepts, Bound, steepest, sample}
-use Rattle.history.specs.Lines.{Lines, LastSampleJustifies, Reason, MustBrake, MayRelease, On}
+use Rattle.history.specs.History.{History, SpeedCeiling, Target, Accepts, Bound, CeilingHolds, steepest, sample}
+use Rattle.history.specs.Lines.{FarAbove, Lines, LastSampleJustifies, Reason, MustBrake, MayRelease, On}
 use Rattle.history.specs.State.{State, is_unfit}
-use Rattle.history.specs.Zones.{question, target_zone, largest_zone, zone_of, zone}
+use Rattle.history.specs.Zones.{ceiling_zone, question, target_zone, largest_zone, zone_of, zone}
 use Rattle.history.specs.Step.{Stepped, step, does, decide, first, grounds, next_phase, is_releasable}
 use Rattle.history.specs.Runs.{entry_of}
-use Rattle.history.proofs.Tracked.{Tracks}
+use Rattle.history.proofs.Grounds.{groundless}
+use Rattle.history.proofs.Tracked.{Tracks, valid_fit}
 use Rattle.history.proofs.Splits.{last_new, last_refused, not_true}
 use Rattle.history.proofs.Grades.{least_fit}
-use Rattle.history.proofs.Tracks.{ahead_is, ahead_one, same_front, same_speed, groundless}
-use Rattle.history.proofs.Zones.{must_control, control_may, clear_may_release, binding_zone, one_control, all_clear, some_control, next_control, next_came, clear_is}
+use Rattle.history.proofs.Tracks.{ahead_is, ahead_one, ceiling_found, ceiling_is, same_front, same_speed}
+use Rattle.history.proofs.Zones.{must_control, control_may, clear_may_release, clear_under, control_far, binding_zone, both_clear, either_control, far_control, first_control, second_control, one_control, all_clear, some_control, next_control, next_came, clear_is}
 
 abbrev asking : ℕ → ℕ → ℤ → Question
 asking v w g = record { speed = v; target_speed = w; grade = g }
@@ -63,6 +66,7 @@ module _ (sheet : Values) (m : Meaning) (law : Lawful m) (h : History) (s : Stat
               sampled = w.sampled;
               not_too_fast = w.not_too_fast;
               all_let_go = w.all_let_go;
+              not_above = w.not_above;
             },
       )
 
@@ -71,7 +75,7 @@ module _ (sheet : Values) (m : Meaning) (law : Lawful m) (h : History) (s : Stat
   asks front v t q b = same_question q.speed v q.target_speed t.speed q.grade _ b.asks_speed b.asks_target (ahead_one sheet h s k front t.place q.grade b.asks_grade)
 
   fit : (front v : ℕ) (t : Target) → is_unfit (question s.track.sections.items front v t).grade ≡ false
-  fit front v t = least_fit steepest front t.place s.track.sections.items refl k.fit
+  fit front v t = least_fit steepest front t.place s.track.sections.items refl (valid_fit s.track.sections.items k.valid.sections)
 
   sound : (front v : ℕ) (t : Target) → Binds m (question s.track.sections.items front v t) → v ≤ m.top → Sound (m.verdict (question s.track.sections.items front v t))
   sound front v t b l = law.sound (question s.track.sections.items front v t) (fit_asked m v t.speed _ l b (fit front v t)) b
@@ -85,7 +89,14 @@ module _ (sheet : Values) (m : Meaning) (law : Lawful m) (h : History) (s : Stat
   too_fast_zone : (front v : ℕ) → m.top < v → zone m s.track front v ≡ zones.Control
   too_fast_zone front v l = grind arith
 
-  slow_zone : (front v : ℕ) → v ≤ m.top → zone m s.track front v ≡ largest_zone m s.track.sections.items front v s.track.targets.items
+  -- the largest of the targets, and that of the ceiling
+  abbrev targets_zone : (front v : ℕ) → Zone
+  targets_zone front v = largest_zone m s.track.sections.items front v s.track.targets.items
+
+  abbrev under_zone : (front v : ℕ) → Zone
+  under_zone front v = ceiling_zone s.track.ceilings.items front v
+
+  slow_zone : (front v : ℕ) → v ≤ m.top → zone m s.track front v ≡ max_zone (targets_zone front v) (under_zone front v)
   slow_zone front v l = grind arith
 
   near_zone : (front v : ℕ) → v ≤ m.top → (t : Target) (q : Question) → Bound sheet m h front v t q → MustBrake (m.verdict q) front t.place → zone m s.track front v ≡ zones.Control
@@ -93,30 +104,48 @@ module _ (sheet : Values) (m : Meaning) (law : Lawful m) (h : History) (s : Stat
       let slow = binding front v t q b in
       let must' : MustBrake (m.verdict (question s.track.sections.items front v t)) front t.place = subst (λ (q : Question). MustBrake (m.verdict q) front t.place) (asks front v t q b) must in
       let three : target_zone m s.track.sections.items front v t ≡ zones.Control = zone_is front v t slow ∙ must_control _ front t.place (sound front v t slow l) must' in
-      slow_zone front v l ∙ one_control m s.track.sections.items front v s.track.targets.items t (k.target_listed t b.stands) three
+      slow_zone front v l ∙ first_control (targets_zone front v) (under_zone front v) (one_control m s.track.sections.items front v s.track.targets.items t (k.targets.listed t b.stands) three)
+
+  far_zone : (front v : ℕ) (c : SpeedCeiling) → CeilingHolds h front c → FarAbove v c → zone m s.track front v ≡ zones.Control
+  far_zone front v c holds far =
+      elim (cases_lt m.top v) [
+        | inl fast ↦ too_fast_zone front v fast
+        | inr slow ↦ slow_zone front v slow ∙ second_control (targets_zone front v) (under_zone front v) (far_control _ c v (ceiling_is sheet h s k front c holds) far)
+      ]
 
   reason : (front v : ℕ) → zone m s.track front v ≡ zones.Control → Reason sheet m h front v
   reason front v three =
       elim (cases_lt m.top v) [
         | inl fast ↦ inl fast
         | inr slow ↦
-            let w = some_control m s.track.sections.items front v s.track.targets.items (sym (slow_zone front v slow) ∙ three) in
-            inr (
-              slow,
-              (
-                w.0,
-                question s.track.sections.items front v w.0,
-                record { stands = grind arith; asks_speed = refl; asks_target = refl; asks_grade = ahead_is sheet h s k front w.0.place; binds = w.2 },
-                control_may _ front w.0.place (sound front v w.0 w.2 slow) (sym (zone_is front v w.0 w.2) ∙ w.3),
-              ),
-            )
+            elim (either_control (targets_zone front v) (under_zone front v) (sym (slow_zone front v slow) ∙ three)) [
+              | inl near ↦
+                  let w = some_control m s.track.sections.items front v s.track.targets.items near in
+                  inr (inl (
+                    slow,
+                    (
+                      w.0,
+                      question s.track.sections.items front v w.0,
+                      record { stands = k.targets.stands w.0 w.1; asks_speed = refl; asks_target = refl; asks_grade = ahead_is sheet h s k front w.0.place; binds = w.2 },
+                      control_may _ front w.0.place (sound front v w.0 w.2 slow) (sym (zone_is front v w.0 w.2) ∙ w.3),
+                    ),
+                  ))
+              | inr far ↦
+                  let w = control_far _ v far in
+                  let there = ceiling_found sheet h s k front w.0 w.1 in
+                  inr (inr (there.0, there.1, w.2 there.0 there.2))
+            ]
       ]
 
   clear_there : (front v : ℕ) → zone m s.track front v ≡ zones.Clear → v ≤ m.top → (t : Target) (q : Question) → Bound sheet m h front v t q → MayRelease (m.verdict q) front t.place
   clear_there front v none l t q b =
       let slow = binding front v t q b in
-      let mine : target_zone m s.track.sections.items front v t ≡ zones.Clear = all_clear m s.track.sections.items front v s.track.targets.items t (k.target_listed t b.stands) (sym (slow_zone front v l) ∙ none) in
+      let mine : target_zone m s.track.sections.items front v t ≡ zones.Clear = all_clear m s.track.sections.items front v s.track.targets.items t (k.targets.listed t b.stands) (both_clear (targets_zone front v) (under_zone front v) (sym (slow_zone front v l) ∙ none)).0 in
       subst (λ (q : Question). MayRelease (m.verdict q) front t.place) (sym (asks front v t q b)) (clear_may_release _ front t.place (sound front v t slow l) (sym (zone_is front v t slow) ∙ mine))
+
+  under_there : (front v : ℕ) → zone m s.track front v ≡ zones.Clear → v ≤ m.top → (c : SpeedCeiling) → CeilingHolds h front c → v ≤ c.speed
+  under_there front v none l c holds =
+      clear_under _ c.speed v (ceiling_is sheet h s k front c holds) (both_clear (targets_zone front v) (under_zone front v) (sym (slow_zone front v l) ∙ none)).1
 
   good_sample : (p : Distance) (w : Speed) → Good sheet m h (Sample p w) (does sheet m s (Sample p w))
   good_sample p w =
@@ -131,6 +160,10 @@ module _ (sheet : Values) (m : Meaning) (law : Lawful m) (h : History) (s : Stat
                 on (near_zone p.millimetres w.tenths (omega arith) t q
                 (subst (λ (x : ℕ). Bound sheet m h p.millimetres x t q) ev (subst (λ (x : ℕ). Bound sheet m h x v' t q) ef b))
                 (subst (λ (x : ℕ). MustBrake (m.verdict q) x t.place) ef must));
+            too_far_above = λ front' v' a c holds far.
+                let ev : v' ≡ w.tenths = same_speed p w front' v' a.0 in
+                let ef : front' ≡ p.millimetres = same_front p w front' v' a.0 in
+                on (far_zone p.millimetres w.tenths c (subst (λ (x : ℕ). CeilingHolds h x c) ef holds) (subst (λ (x : ℕ). FarAbove x c) ev far));
           };
           for_a_reason = λ off came. (p.millimetres, w.tenths, (refl, tt), reason p.millimetres w.tenths (next_came s.phase (zone m s.track p.millimetres w.tenths) (λ y. off (k.phase ∙ y)) came));
           when_justified = λ was off. absurd (off (ap (λ (y : Phase). next_phase y (zone m s.track p.millimetres w.tenths)) (sym k.phase ∙ was)));
@@ -138,7 +171,7 @@ module _ (sheet : Values) (m : Meaning) (law : Lawful m) (h : History) (s : Stat
         λ clear.
             let none : zone m s.track p.millimetres w.tenths ≡ zones.Clear = clear_is _ clear in
             let slow : w.tenths ≤ m.top = grind arith in
-            record { before = h; entry = e; last = last_new h e; front = p.millimetres; speed = w.tenths; sampled = (refl, tt); not_too_fast = slow; all_let_go = clear_there p.millimetres w.tenths none slow },
+            record { before = h; entry = e; last = last_new h e; front = p.millimetres; speed = w.tenths; sampled = (refl, tt); not_too_fast = slow; all_let_go = clear_there p.millimetres w.tenths none slow; not_above = under_there p.millimetres w.tenths none slow },
       )
 
   released : (p : Phase) (b : Bool) → not (is_releasable p b) ≡ false → b ≡ true
@@ -154,6 +187,8 @@ module _ (sheet : Values) (m : Meaning) (law : Lawful m) (h : History) (s : Stat
   good_does (Slope p g) none = grind arith
   good_does (Announce n p d w) none = grind arith
   good_does (Withdraw n) none = grind arith
+  good_does (Ceiling p w) none = grind arith
+  good_does (Lift p) none = grind arith
   good_does (Sample p w) none = good_sample p w
   good_does Release none = good_release (released s.phase s.clear (groundless (grounds m s Release) none).0)
 

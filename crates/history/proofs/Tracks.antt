@@ -1,134 +1,158 @@
 -- The state holds what stands by the history: a relation that each step keeps.
-use Rattle.std.proofs.Common.{◌≡◌, ℕ, true, false, cond, List, [], ◌∷◌, ◌++◌, ℤ, ◌≤ℤ◌, Some, None, Err, sym, refl, ap, ◌∙◌, subst, inl, inr, arith}
+use Rattle.std.proofs.Common.{◌≡◌, ℕ, true, false, Bool, [], ◌∷◌, ◌++◌, ℤ, ◌≤ℤ◌, Some, None, Err, Option, sym, refl, ap, ◌∙◌, subst, inl, inr, arith}
 use Rattle.std.proofs.lemmas.Int.{ints}
 use Rattle.std.proofs.lemmas.Bool.{cases_lt}
 use Rattle.units.specs.declared.quantities.Distance.{Distance}
 use Rattle.units.specs.declared.quantities.Grade.{Grade}
 use Rattle.units.specs.declared.quantities.Speed.{Speed}
-use Rattle.place_list.specs.Membership.{In}
-use Rattle.place_list.specs.Insertion.{placed_in}
-use Rattle.place_list.proofs.Members.{one_more_placed}
 use Rattle.braking.specs.Meaning.{Meaning}
 use Rattle.calls.specs.Answers.{Answer}
 use Rattle.calls.specs.declared.call.Call.{Call}
-use Rattle.calls.specs.declared.call.Call.TheVariants.{Slope, Announce, Withdraw, Sample, Release}
+use Rattle.calls.specs.declared.call.Call.TheVariants.{Slope, Announce, Withdraw, Ceiling, Lift, Sample, Release}
 use Rattle.calls.specs.declared.phase.Phase.{Phase}
 use Rattle.calls.specs.declared.phase.Phase.TheVariants.{Free}
 use Rattle.calls.specs.declared.record.Record.{Record}
 use Rattle.calls.specs.declared.refusal.Refusal.{Refusal}
 use Rattle.sheet.specs.declared.values.Values.{Values}
-use Rattle.history.specs.History.{History, Section, Target, Accepts, SectionStands, TargetStands, GradeAt, GradeAhead, target_place, steepest, slope, announce, withdraw, sample}
-use Rattle.history.specs.State.{Capacity, empty_track, State, start, is_unfit, begins_at, has_number}
-use Rattle.history.specs.Zones.{least_grade}
-use Rattle.history.specs.Step.{Ground, step, does, decide, first, grounds}
+use Rattle.history.specs.Agrees.{ListedExactly}
+use Rattle.history.specs.History.{History, Section, SpeedCeiling, Target, Adds, Announces, CeilingHolds, CeilingStands, GradeAt, GradeAhead, SectionStands, TargetStands, WasAccepted, ceiling_from, lift, target_place, steepest, slope, announce, withdraw, sample}
+use Rattle.history.specs.Lines.{HasOneCeilingAtMost}
+use Rattle.history.specs.State.{Capacity, empty_track, State, Valid, start}
+use Rattle.history.specs.Zones.{ceiling_speed_at, least_grade}
+use Rattle.history.specs.Step.{step, does, decide, first, grounds}
 use Rattle.history.specs.Runs.{entry_of}
-use Rattle.history.proofs.Tracked.{Tracks, no_number}
-use Rattle.history.proofs.Splits.{last_push, accepted_more, accepted_new, accepted_cases, accepted_none, stands_more, stands_new, stands_cases, stands_none}
+use Rattle.history.proofs.Begun.{held_is, held_one, one_last}
+use Rattle.history.proofs.Exact.{exactly_added, exactly_same, exactly_taken, holds_listed, holds_standing, section_added, sections_same}
+use Rattle.history.proofs.Tracked.{Ascends, Tracks, ceiling_place, further_ascends, section_place, target_number, target_place_of, valid_ascends, valid_distinct}
+use Rattle.history.proofs.Validity.{done_valid}
+use Rattle.history.proofs.Splits.{last_push, accepted_none, not_true, stands_none}
 use Rattle.history.proofs.Grades.{grade_in, GradeIn, grade_in_is, grade_in_one, least_below, least_reached, least_passed}
-use Rattle.history.proofs.Lists.{section_place, target_stands_at, placed_ascends, placed_distinct, in_without, without_in, without_distinct}
+use Rattle.history.proofs.Lists.{ascends_distinct}
 
 pub tracks_start : (sheet : Values) (capacity : Capacity) → Tracks sheet [] (start (empty_track capacity))
 tracks_start sheet capacity = record {
   phase = refl;
-  section_listed = λ x a. absurd (accepted_none _ a);
-  section_stands = λ x i. absurd i;
-  ascends = tt;
-  fit = λ x i. absurd i;
-  target_listed = λ t a. absurd (stands_none sheet t a);
-  target_stands = λ t i. absurd i;
-  distinct = tt;
+  sections = record { listed = λ x a. absurd (accepted_none _ a); stands = λ x i. absurd i };
+  targets = record { listed = λ t a. absurd (stands_none (Announces sheet t) (withdraw t.number) a); stands = λ t i. absurd i };
+  ceilings = record { listed = λ c a. absurd (stands_none _ (lift c.place) a); stands = λ c i. absurd i };
+  valid = record { sections = refl; targets = refl; ceilings = refl };
 }
 
--- The grade ahead, by the state's sections.
+abbrev some_speed : SpeedCeiling → Option ℕ
+some_speed c = Some c.speed
+
+-- What holds at a place, by the state's lists.
 
 module _ (sheet : Values) (h : History) (s : State) (k : Tracks sheet h s) where
+  ascending : Ascends section_place s.track.sections.items
+  ascending = valid_ascends s.track.sections.items k.valid.sections
+
+  ceilings_ascending : Ascends ceiling_place s.track.ceilings.items
+  ceilings_ascending = further_ascends ceiling_place s.track.ceilings.items k.valid.ceilings
+
   to_list : (p : ℕ) (g : ℤ) → GradeAt h p g → GradeIn steepest s.track.sections.items p g
-  to_list p g (inl w) = inl (w.0, (k.section_listed w.0 w.1.stands, w.1.begun, λ y i l. w.1.last y (k.section_stands y i) l), w.2)
-  to_list p g (inr w) = inr ((λ y i. w.0 y (k.section_stands y i)), w.1)
+  to_list p g (inl w) = inl (w.0, holds_listed (SectionStands h) s.track.sections.items section_place p w.0 k.sections w.1, w.2)
+  to_list p g (inr w) = inr ((λ y i. w.0 y (k.sections.stands y i)), w.1)
 
   from_list : (p : ℕ) (g : ℤ) → GradeIn steepest s.track.sections.items p g → GradeAt h p g
-  from_list p g (inl w) = inl (w.0, record { stands = grind arith; begun = w.1.1; last = λ y a l. w.1.2 y (k.section_listed y a) l }, w.2)
-  from_list p g (inr w) = inr ((λ y a. w.0 y (k.section_listed y a)), w.1)
+  from_list p g (inl w) = inl (w.0, holds_standing (SectionStands h) s.track.sections.items section_place p w.0 k.sections w.1, w.2)
+  from_list p g (inr w) = inr ((λ y a. w.0 y (k.sections.listed y a)), w.1)
 
   at_is : (p : ℕ) (g : ℤ) → grade_in steepest s.track.sections.items p ≡ g → GradeAt h p g
-  at_is p g e = from_list p g (subst (λ (g : ℤ). GradeIn steepest s.track.sections.items p g) e (grade_in_is steepest s.track.sections.items p k.ascends))
+  at_is p g e = from_list p g (subst (λ (g : ℤ). GradeIn steepest s.track.sections.items p g) e (grade_in_is steepest s.track.sections.items p ascending))
 
   at_one : (p : ℕ) (g : ℤ) → GradeAt h p g → grade_in steepest s.track.sections.items p ≡ g
-  at_one p g a = grade_in_one steepest s.track.sections.items p _ g k.ascends (grade_in_is steepest s.track.sections.items p k.ascends) (to_list p g a)
+  at_one p g a = grade_in_one steepest s.track.sections.items p _ g ascending (grade_in_is steepest s.track.sections.items p ascending) (to_list p g a)
 
   pub ahead_is : (front place : ℕ) → GradeAhead h front place (least_grade steepest front place s.track.sections.items)
   ahead_is front place =
       elim (cases_lt place front) [
         | inl passed ↦ inr (passed, at_is front _ (sym (least_passed steepest front place s.track.sections.items passed)))
         | inr ahead ↦
-            let r = least_reached steepest front place s.track.sections.items k.ascends ahead in
+            let r = least_reached steepest front place s.track.sections.items ascending ahead in
             inl (
               ahead,
               record {
                 somewhere = (r.0, r.1, r.2, at_is r.0 _ r.3);
-                least = λ p g l m a. subst (λ (g : ℤ). least_grade steepest front place s.track.sections.items ≤ℤ g) (at_one p g a) (least_below steepest front place s.track.sections.items k.ascends p l m);
+                least = λ p g l m a. subst (λ (g : ℤ). least_grade steepest front place s.track.sections.items ≤ℤ g) (at_one p g a) (least_below steepest front place s.track.sections.items ascending p l m);
               },
             )
       ]
 
   pub ahead_one : (front place : ℕ) (g : ℤ) → GradeAhead h front place g → g ≡ least_grade steepest front place s.track.sections.items
   ahead_one front place g (inl w) =
-      let r = least_reached steepest front place s.track.sections.items k.ascends w.0 in
+      let r = least_reached steepest front place s.track.sections.items ascending w.0 in
       let p = w.1.somewhere in
-      let low : least_grade steepest front place s.track.sections.items ≤ℤ g = subst (λ (g : ℤ). least_grade steepest front place s.track.sections.items ≤ℤ g) (at_one p.0 g p.3) (least_below steepest front place s.track.sections.items k.ascends p.0 p.1 p.2) in
+      let low : least_grade steepest front place s.track.sections.items ≤ℤ g = subst (λ (g : ℤ). least_grade steepest front place s.track.sections.items ≤ℤ g) (at_one p.0 g p.3) (least_below steepest front place s.track.sections.items ascending p.0 p.1 p.2) in
       let high : g ≤ℤ least_grade steepest front place s.track.sections.items = w.1.least r.0 _ r.1 r.2 (at_is r.0 _ r.3) in
       omega (arith, ints)
   ahead_one front place g (inr w) = sym (at_one front g w.1) ∙ sym (least_passed steepest front place s.track.sections.items w.0)
 
+  -- the ceiling that holds is the one in the list
+  pub ceiling_is : (front : ℕ) (c : SpeedCeiling) → CeilingHolds h front c → ceiling_speed_at s.track.ceilings.items front ≡ Some c.speed
+  ceiling_is front c w =
+      held_one ceiling_place some_speed None s.track.ceilings.items front _ (Some c.speed) ceilings_ascending
+      (held_is ceiling_place some_speed None s.track.ceilings.items front ceilings_ascending)
+      (inl (c, holds_listed (CeilingStands h) s.track.ceilings.items ceiling_place front c k.ceilings w, refl))
+
+  pub ceiling_found : (front v : ℕ) → ceiling_speed_at s.track.ceilings.items front ≡ Some v → (c : SpeedCeiling) × CeilingHolds h front c × (c.speed ≡ v)
+  ceiling_found front v e =
+      elim (held_is ceiling_place some_speed None s.track.ceilings.items front ceilings_ascending) [
+        | inl w ↦ (w.0, holds_standing (CeilingStands h) s.track.ceilings.items ceiling_place front w.0 k.ceilings w.1, grind arith)
+        | inr w ↦ absurd (grind arith)
+      ]
+
+  pub one_ceiling_there : HasOneCeilingAtMost h
+  one_ceiling_there p =
+      elim (held_is ceiling_place some_speed None s.track.ceilings.items p ceilings_ascending) [
+        | inl w ↦ inl (
+          w.0,
+          holds_standing (CeilingStands h) s.track.ceilings.items ceiling_place p w.0 k.ceilings w.1,
+          λ d v. one_last ceiling_place s.track.ceilings.items p d w.0 ceilings_ascending (holds_listed (CeilingStands h) s.track.ceilings.items ceiling_place p d k.ceilings v) w.1,
+        )
+        | inr w ↦ inr (λ d a. w.0 d (k.ceilings.listed d a))
+      ]
+
 -- The numbers of a call.
 
-abbrev slope_place : Call → ℕ
-slope_place (Slope p g) = p.millimetres
-slope_place (Announce n p d v) = 0
-slope_place (Withdraw n) = 0
-slope_place (Sample p v) = 0
-slope_place Release = 0
+abbrev place_in : Call → ℕ
+place_in (Slope p g) = p.millimetres
+place_in (Announce n p d v) = p.millimetres
+place_in (Ceiling p v) = p.millimetres
+place_in (Lift p) = p.millimetres
+place_in (Sample p v) = p.millimetres
+place_in _ = 0
 
-abbrev slope_grade : Call → ℤ
-slope_grade (Slope p g) = g.thousandths
-slope_grade (Announce n p d v) = steepest
-slope_grade (Withdraw n) = steepest
-slope_grade (Sample p v) = steepest
-slope_grade Release = steepest
+abbrev grade_of : Call → ℤ
+grade_of (Slope p g) = g.thousandths
+grade_of _ = steepest
 
 abbrev number_in : Call → ℕ
-number_in (Slope p g) = 0
 number_in (Announce n p d v) = n
 number_in (Withdraw n) = n
-number_in (Sample p v) = 0
-number_in Release = 0
-
-abbrev point_in : Call → ℕ
-point_in (Slope p g) = 0
-point_in (Announce n p d v) = p.millimetres
-point_in (Withdraw n) = 0
-point_in (Sample p v) = p.millimetres
-point_in Release = 0
+number_in _ = 0
 
 abbrev distance_in : Call → ℕ
-distance_in (Slope p g) = 0
 distance_in (Announce n p d v) = d.millimetres
-distance_in (Withdraw n) = 0
-distance_in (Sample p v) = 0
-distance_in Release = 0
+distance_in _ = 0
 
 abbrev speed_in : Call → ℕ
-speed_in (Slope p g) = 0
 speed_in (Announce n p d v) = v.tenths
-speed_in (Withdraw n) = 0
+speed_in (Ceiling p v) = v.tenths
 speed_in (Sample p v) = v.tenths
-speed_in Release = 0
+speed_in _ = 0
 
 pub same_front : (p : Distance) (v : Speed) (front speed : ℕ) → Sample p v ≡ sample front speed → front ≡ p.millimetres
-same_front p v front speed e = sym (ap point_in e)
+same_front p v front speed e = sym (ap place_in e)
 
 pub same_speed : (p : Distance) (v : Speed) (front speed : ℕ) → Sample p v ≡ sample front speed → speed ≡ v.tenths
 same_speed p v front speed e = sym (ap speed_in e)
+
+-- The call alters a list, where it is accepted.
+abbrev alters_lists : Call → Bool
+alters_lists (Sample p v) = false
+alters_lists Release = false
+alters_lists _ = true
 
 -- The steps.
 
@@ -138,137 +162,132 @@ section p g = record { place = p; grade = g }
 abbrev target : ℕ → ℕ → ℕ → Target
 target n p v = record { number = n; place = p; speed = v }
 
+abbrev ceiling : ℕ → ℕ → SpeedCeiling
+ceiling p v = record { place = p; speed = v }
+
+same_ceiling : (p q v w : ℕ) → p ≡ q → v ≡ w → ceiling p v ≡ ceiling q w
+same_ceiling p q v w a b = grind arith
+
 same_section : (p q : ℕ) (g k : ℤ) → p ≡ q → g ≡ k → section p g ≡ section q k
 same_section p q g k a b = grind arith
 
 same_target : (n m p q v w : ℕ) → n ≡ m → p ≡ q → v ≡ w → target n p v ≡ target m q w
 same_target n m p q v w a b c = grind arith
 
--- None of the grounds holds.
-abbrev pub Groundless : List Ground → Type 0
-Groundless [] = Unit {0}
-Groundless (g ∷ gs) = (g.holds ≡ false) × Groundless gs
-
-pub groundless : (gs : List Ground) → first gs ≡ None → Groundless gs
-groundless [] e = tt
-groundless (g ∷ gs) e = elim g.holds as (λ v. cond v (Some g.refusal) (first gs) ≡ None → (v ≡ false) × Groundless gs)
-    [ true ↦ λ k. grind arith | false ↦ λ k. (refl, groundless gs k) ] e
-
 module _ (sheet : Values) (h : History) (s : State) (k : Tracks sheet h s) where
-  -- an entry that adds nothing and takes nothing out, with the phase after it
-  tracks_same : (e : Record) (s' : State) → s'.track.sections.items ≡ s.track.sections.items → s'.track.targets.items ≡ s.track.targets.items → s'.phase ≡ e.phase →
-      ((q : ℕ) (g : ℤ) → Accepts e (slope q g) → ⊥) →
-      ((n q d v : ℕ) → Accepts e (announce n q d v) → ⊥) →
-      ((n : ℕ) → Accepts e (withdraw n) → ⊥) →
-      Tracks sheet (h ++ e ∷ []) s'
-  tracks_same e s' xs ts p never-slope never-announce never-withdraw = record {
-    phase = last_push Free h e ∙ sym p;
-    section_listed = λ x a. subst (In x) (sym xs) (elim (accepted_cases h _ e a) [ inl b ↦ k.section_listed x b | inr b ↦ absurd (never-slope _ _ b) ]);
-    section_stands = λ x i. accepted_more e (k.section_stands x (subst (In x) xs i));
-    ascends = rw xs k.ascends;
-    fit = λ x i. k.fit x (subst (In x) xs i);
-    target_listed = λ t a. subst (In t) (sym ts) (elim (stands_cases sheet h t e a) [ inl b ↦ k.target_listed t b.0 | inr b ↦ absurd (never-announce _ _ _ _ b.2) ]);
-    target_stands = λ t i. stands_more sheet h t e (k.target_stands t (subst (In t) ts i)) (λ b. never-withdraw _ b);
-    distinct = rw ts k.distinct;
-  }
+  -- what no accepted call of an entry alters
+  module _ (e : Record) where
+    sections_stay : ((q : ℕ) (g : ℤ) → e.call ≡ slope q g → WasAccepted e.answer → ⊥) → ListedExactly (SectionStands (h ++ e ∷ [])) s.track.sections.items
+    sections_stay never = sections_same h e s.track.sections.items k.sections (λ x a. never x.place x.grade a.0 a.1)
+
+    targets_stay : ((n q d v : ℕ) → e.call ≡ announce n q d v → WasAccepted e.answer → ⊥) → ((n : ℕ) → e.call ≡ withdraw n → WasAccepted e.answer → ⊥) → ListedExactly (TargetStands sheet (h ++ e ∷ [])) s.track.targets.items
+    targets_stay never-adds never-takes =
+        exactly_same (λ (t : Target). Announces sheet t) (λ (t : Target). withdraw t.number) h e s.track.targets.items k.targets
+        (λ t a acc. never-adds t.number a.point a.distance t.speed a.call acc) (λ t a. never-takes t.number a.0 a.1)
+
+    ceilings_stay : ((q v : ℕ) → e.call ≡ ceiling_from q v → WasAccepted e.answer → ⊥) → ((q : ℕ) → e.call ≡ lift q → WasAccepted e.answer → ⊥) → ListedExactly (CeilingStands (h ++ e ∷ [])) s.track.ceilings.items
+    ceilings_stay never-adds never-takes =
+        exactly_same (λ (c : SpeedCeiling). Adds c) (λ (c : SpeedCeiling). lift c.place) h e s.track.ceilings.items k.ceilings
+        (λ c a acc. never-adds c.place c.speed a acc) (λ c a. never-takes c.place a.0 a.1)
+
+  -- an entry that alters no list, with the phase after it
+  tracks_same : (e : Record) (s' : State) → s'.track ≡ s.track → s'.phase ≡ e.phase → (WasAccepted e.answer → alters_lists e.call ≡ false) → Tracks sheet (h ++ e ∷ []) s'
+  tracks_same e s' same p quiet =
+      let never : (c : Call) → alters_lists c ≡ true → e.call ≡ c → WasAccepted e.answer → ⊥ = λ c l is acc. not_true (sym (quiet acc) ∙ (ap alters_lists is ∙ l)) in
+      rw same (record {
+        phase = last_push Free h e ∙ sym p;
+        sections = sections_stay e (λ q g. never (slope q g) refl);
+        targets = targets_stay e (λ n q d v. never (announce n q d v) refl) (λ n. never (withdraw n) refl);
+        ceilings = ceilings_stay e (λ q v. never (ceiling_from q v) refl) (λ q. never (lift q) refl);
+        valid = k.valid;
+      })
 
 module _ (sheet : Values) (m : Meaning) (h : History) (s : State) (k : Tracks sheet h s) where
   tracks_refused : (c : Call) (r : Refusal) → Tracks sheet (h ++ record { call = c; answer = Err r; phase = s.phase } ∷ []) s
-  tracks_refused c r = tracks_same sheet h s k (record { call = c; answer = Err r; phase = s.phase }) s refl refl refl (λ q g a. a.1) (λ n q d v a. a.1) (λ n a. a.1)
+  tracks_refused c r = tracks_same sheet h s k (record { call = c; answer = Err r; phase = s.phase }) s refl refl (λ acc. absurd acc)
 
-  tracks_slope : (p : Distance) (g : Grade) → is_unfit g.thousandths ≡ false → begins_at p.millimetres s.track.sections.items ≡ false →
+  tracks_slope : (p : Distance) (g : Grade) → Valid (does sheet m s (Slope p g)).state.track →
       Tracks sheet (h ++ entry_of (Slope p g) (does sheet m s (Slope p g)) ∷ []) (does sheet m s (Slope p g)).state
-  tracks_slope p g fit free =
+  tracks_slope p g v =
       let e : Record = entry_of (Slope p g) (does sheet m s (Slope p g)) in
       let new : Section = section p.millimetres g.thousandths in
       record {
         phase = last_push Free h e;
-        section_listed = λ x a. elim (accepted_cases h _ e a) [
-          | inl b ↦ (one_more_placed section_place new s.track.sections.items).rest x (k.section_listed x b)
-          | inr b ↦ subst (λ (y : Section). In y (placed_in section_place new s.track.sections.items)) (same_section _ x.place _ x.grade (ap slope_place b.0) (ap slope_grade b.0)) (one_more_placed section_place new s.track.sections.items).it
-        ];
-        section_stands = λ x i. elim ((one_more_placed section_place new s.track.sections.items).only x i) [
-          | inl j ↦ accepted_more e (k.section_stands x j)
-          | inr same ↦ subst (λ (y : Section). SectionStands (h ++ e ∷ []) y) (sym same) (accepted_new h e (refl, tt))
-        ];
-        ascends = placed_ascends new s.track.sections.items k.ascends free;
-        fit = λ x i. elim ((one_more_placed section_place new s.track.sections.items).only x i) [
-          | inl j ↦ k.fit x j
-          | inr same ↦ subst (λ (y : Section). is_unfit y.grade ≡ false) (sym same) fit
-        ];
-        target_listed = λ t a. elim (stands_cases sheet h t e a) [
-          | inl b ↦ k.target_listed t b.0
-          | inr b ↦ grind arith
-        ];
-        target_stands = λ t i. stands_more sheet h t e (k.target_stands t i) (λ b. grind arith);
-        distinct = k.distinct;
+        sections = section_added h e s.track.sections.items k.sections new (refl, tt) (λ x a. same_section x.place p.millimetres x.grade g.thousandths (sym (ap place_in a.0)) (sym (ap grade_of a.0)));
+        targets = targets_stay sheet h s k e (λ n q d v a _. grind arith) (λ n a _. grind arith);
+        ceilings = ceilings_stay sheet h s k e (λ q v a _. grind arith) (λ q a _. grind arith);
+        valid = v;
       }
 
-  tracks_announce : (n : ℕ) (p d : Distance) (v : Speed) → has_number n s.track.targets.items ≡ false →
-      Tracks sheet (h ++ entry_of (Announce n p d v) (does sheet m s (Announce n p d v)) ∷ []) (does sheet m s (Announce n p d v)).state
-  tracks_announce n p d v free =
-      let e : Record = entry_of (Announce n p d v) (does sheet m s (Announce n p d v)) in
-      let new : Target = target n (target_place sheet p.millimetres d.millimetres) v.tenths in
+  tracks_announce : (n : ℕ) (p d : Distance) (w : Speed) → Valid (does sheet m s (Announce n p d w)).state.track →
+      Tracks sheet (h ++ entry_of (Announce n p d w) (does sheet m s (Announce n p d w)) ∷ []) (does sheet m s (Announce n p d w)).state
+  tracks_announce n p d w v =
+      let e : Record = entry_of (Announce n p d w) (does sheet m s (Announce n p d w)) in
+      let new : Target = target n (target_place sheet p.millimetres d.millimetres) w.tenths in
       record {
         phase = last_push Free h e;
-        section_listed = λ x a. elim (accepted_cases h _ e a) [
-          | inl b ↦ k.section_listed x b
-          | inr b ↦ grind arith
-        ];
-        section_stands = λ x i. accepted_more e (k.section_stands x i);
-        ascends = k.ascends;
-        fit = k.fit;
-        target_listed = λ t a. elim (stands_cases sheet h t e a) [
-          | inl b ↦ (one_more_placed target_stands_at new s.track.targets.items).rest t (k.target_listed t b.0)
-          | inr b ↦
-              let c : Announce n p d v ≡ announce t.number b.0 b.1 t.speed = b.2.0 in
-              let place : target_place sheet p.millimetres d.millimetres ≡ t.place =
-              ap (λ (x : ℕ). target_place sheet x d.millimetres) (ap point_in c) ∙ (ap (λ (x : ℕ). target_place sheet b.0 x) (ap distance_in c) ∙ sym b.3) in
-              subst (λ (u : Target). In u (placed_in target_stands_at new s.track.targets.items)) (same_target n t.number _ t.place _ t.speed (ap number_in c) place (ap speed_in c)) (one_more_placed target_stands_at new s.track.targets.items).it
-        ];
-        target_stands = λ t i. elim ((one_more_placed target_stands_at new s.track.targets.items).only t i) [
-          | inl j ↦ stands_more sheet h t e (k.target_stands t j) (λ b. grind arith)
-          | inr same ↦ subst (λ (u : Target). TargetStands sheet (h ++ e ∷ []) u) (sym same) (stands_new sheet h new e p.millimetres d.millimetres (refl, tt) refl)
-        ];
-        distinct = placed_distinct new s.track.targets.items k.distinct (no_number n s.track.targets.items free);
+        sections = sections_stay sheet h s k e (λ q g a _. grind arith);
+        targets = exactly_added (λ (t : Target). Announces sheet t) (λ (t : Target). withdraw t.number) h e s.track.targets.items k.targets target_place_of new tt
+            (record { point = p.millimetres; distance = d.millimetres; call = refl; placed = refl })
+            (λ t a. same_target t.number n t.place _ t.speed w.tenths (sym (ap number_in a.call))
+            (a.placed ∙ (ap (λ (x : ℕ). target_place sheet x a.distance) (sym (ap place_in a.call)) ∙ ap (λ (x : ℕ). target_place sheet p.millimetres x) (sym (ap distance_in a.call)))) (sym (ap speed_in a.call))) (λ t a. grind arith);
+        ceilings = ceilings_stay sheet h s k e (λ q u a _. grind arith) (λ q a _. grind arith);
+        valid = v;
       }
 
-  tracks_withdraw : (n : ℕ) → Tracks sheet (h ++ entry_of (Withdraw n) (does sheet m s (Withdraw n)) ∷ []) (does sheet m s (Withdraw n)).state
-  tracks_withdraw n =
+  tracks_withdraw : (n : ℕ) → Valid (does sheet m s (Withdraw n)).state.track → Tracks sheet (h ++ entry_of (Withdraw n) (does sheet m s (Withdraw n)) ∷ []) (does sheet m s (Withdraw n)).state
+  tracks_withdraw n v =
       let e : Record = entry_of (Withdraw n) (does sheet m s (Withdraw n)) in
       record {
         phase = last_push Free h e;
-        section_listed = λ x a. elim (accepted_cases h _ e a) [
-          | inl b ↦ k.section_listed x b
-          | inr b ↦ grind arith
-        ];
-        section_stands = λ x i. accepted_more e (k.section_stands x i);
-        ascends = k.ascends;
-        fit = k.fit;
-        target_listed = λ t a. elim (stands_cases sheet h t e a) [
-          | inl b ↦ in_without n s.track.targets.items t (k.target_listed t b.0) (λ q. b.1 (ap withdraw (sym q), tt))
-          | inr b ↦ grind arith
-        ];
-        target_stands = λ t i. let w = without_in n s.track.targets.items k.distinct t i in
-            stands_more sheet h t e (k.target_stands t w.0) (λ b. w.1 (sym (ap number_in b.0)));
-        distinct = without_distinct n s.track.targets.items k.distinct;
+        sections = sections_stay sheet h s k e (λ q g a _. grind arith);
+        targets = exactly_taken (λ (t : Target). Announces sheet t) (λ (t : Target). withdraw t.number) h e s.track.targets.items k.targets target_number n (valid_distinct s.track.targets.items k.valid.targets)
+            (λ t a. let c : Withdraw n ≡ announce t.number a.point a.distance t.speed = a.call in grind arith) (λ t q. (ap withdraw (sym q), tt)) (λ t a. sym (ap number_in a.0));
+        ceilings = ceilings_stay sheet h s k e (λ q w a _. grind arith) (λ q a _. grind arith);
+        valid = v;
       }
 
-  tracks_does : (c : Call) → first (grounds m s c) ≡ None → Tracks sheet (h ++ entry_of c (does sheet m s c) ∷ []) (does sheet m s c).state
-  tracks_does (Slope p g) none = let w = groundless (grounds m s (Slope p g)) none in tracks_slope p g w.1.0 w.1.1.0
-  tracks_does (Announce n p d v) none = tracks_announce n p d v (groundless (grounds m s (Announce n p d v)) none).1.1.0
-  tracks_does (Withdraw n) none = tracks_withdraw n
-  tracks_does (Sample p v) none = tracks_same sheet h s k _ _ refl refl refl
-      (λ q g a. grind arith) (λ n q d w a. grind arith) (λ n a. grind arith)
-  tracks_does Release none = tracks_same sheet h s k _ _ refl refl refl
-      (λ q g a. grind arith) (λ n q d w a. grind arith) (λ n a. grind arith)
+  tracks_ceiling : (p : Distance) (w : Speed) → Valid (does sheet m s (Ceiling p w)).state.track →
+      Tracks sheet (h ++ entry_of (Ceiling p w) (does sheet m s (Ceiling p w)) ∷ []) (does sheet m s (Ceiling p w)).state
+  tracks_ceiling p w v =
+      let e : Record = entry_of (Ceiling p w) (does sheet m s (Ceiling p w)) in
+      let new : SpeedCeiling = ceiling p.millimetres w.tenths in
+      record {
+        phase = last_push Free h e;
+        sections = sections_stay sheet h s k e (λ q g a _. grind arith);
+        targets = targets_stay sheet h s k e (λ n q d u a _. grind arith) (λ n a _. grind arith);
+        ceilings = exactly_added (λ (c : SpeedCeiling). Adds c) (λ (c : SpeedCeiling). lift c.place) h e s.track.ceilings.items k.ceilings ceiling_place new tt
+            refl (λ c a. same_ceiling c.place p.millimetres c.speed w.tenths (sym (ap place_in a)) (sym (ap speed_in a))) (λ c a. grind arith);
+        valid = v;
+      }
+
+  tracks_lift : (p : Distance) → Valid (does sheet m s (Lift p)).state.track → Tracks sheet (h ++ entry_of (Lift p) (does sheet m s (Lift p)) ∷ []) (does sheet m s (Lift p)).state
+  tracks_lift p v =
+      let e : Record = entry_of (Lift p) (does sheet m s (Lift p)) in
+      record {
+        phase = last_push Free h e;
+        sections = sections_stay sheet h s k e (λ q g a _. grind arith);
+        targets = targets_stay sheet h s k e (λ n q d w a _. grind arith) (λ n a _. grind arith);
+        ceilings = exactly_taken (λ (c : SpeedCeiling). Adds c) (λ (c : SpeedCeiling). lift c.place) h e s.track.ceilings.items k.ceilings ceiling_place p.millimetres
+            (ascends_distinct ceiling_place s.track.ceilings.items (ceilings_ascending sheet h s k))
+            (λ c a. grind arith) (λ c q. (ap lift (sym q), tt)) (λ c a. sym (ap place_in a.0));
+        valid = v;
+      }
+
+  tracks_does : (c : Call) → Valid (does sheet m s c).state.track → Tracks sheet (h ++ entry_of c (does sheet m s c) ∷ []) (does sheet m s c).state
+  tracks_does (Slope p g) v = tracks_slope p g v
+  tracks_does (Announce n p d w) v = tracks_announce n p d w v
+  tracks_does (Withdraw n) v = tracks_withdraw n v
+  tracks_does (Ceiling p w) v = tracks_ceiling p w v
+  tracks_does (Lift p) v = tracks_lift p v
+  tracks_does (Sample p w) v = tracks_same sheet h s k _ _ refl refl (λ acc. refl)
+  tracks_does Release v = tracks_same sheet h s k _ _ refl refl (λ acc. refl)
 
   pub tracks_step : (c : Call) → Tracks sheet (h ++ entry_of c (step sheet m s c) ∷ []) (step sheet m s c).state
   tracks_step c = elim (first (grounds m s c)) as (λ o. first (grounds m s c) ≡ o → Tracks sheet (h ++ entry_of c (decide o s (does sheet m s c)) ∷ []) (decide o s (does sheet m s c)).state)
-      [ None ↦ λ e. tracks_does c e | Some r ↦ λ e. tracks_refused c r ] refl
+      [ None ↦ λ e. tracks_does c (done_valid sheet m s k.valid c e) | Some r ↦ λ e. tracks_refused c r ] refl
 
 -- Any sample leaves what stands as it is, with its phase.
 pub tracks_sampled : (sheet : Values) (h : History) (s : State) → Tracks sheet h s → (front speed : ℕ) (p : Phase) (a : Answer) →
     Tracks sheet (h ++ record { call = sample front speed; answer = a; phase = p } ∷ []) (record { track = s.track; phase = p; clear = false })
-tracks_sampled sheet h s k front speed p a = tracks_same sheet h s k _ _ refl refl refl
-    (λ q g a. grind arith) (λ n q d w a. grind arith) (λ n a. grind arith)
+tracks_sampled sheet h s k front speed p a = tracks_same sheet h s k _ _ refl refl (λ acc. refl)

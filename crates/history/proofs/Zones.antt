@@ -1,19 +1,18 @@
 -- What a zone says of the exact distances, by a lawful meaning, and of the phase after it.
 use Rattle.std.proofs.lemmas.Bool.Decides.{nat_tests}
-use Rattle.std.proofs.Common.{rules}
-use Rattle.std.proofs.Common.{◌≡◌, ℕ, ◌+◌, ◌*◌, ◌<◌, ◌≤◌, max, true, false, cond, leb, List, [], ◌∷◌, refl, ap, inl, inr, mul-le-mul_right, arith}
+use Rattle.std.proofs.Common.{◌≡◌, ℕ, ◌+◌, ◌-◌, ◌*◌, ◌<◌, ◌≤◌, ◌⊎◌, true, false, cond, leb, List, [], ◌∷◌, Some, None, Option, sym, refl, ap, ◌∙◌, inl, inr, mul-le-mul_right, arith}
 use Rattle.std.proofs.lemmas.Bool.{cases_lt, cases_Bool}
 use Rattle.place_list.specs.Membership.{In}
 use Rattle.braking.specs.Laws.{Sound}
 use Rattle.braking.specs.Meaning.{Meaning, Verdict, Binds, binds, weak, strong}
-use Rattle.calls.specs.Zones.{zone_number, max_zone}
+use Rattle.calls.specs.Zones.{max_zone}
 use Rattle.calls.specs.declared.phase.Phase.{Phase}
 use Rattle.calls.specs.declared.phase.Phase.TheVariants.{Emergency}
 use Rattle.calls.specs.declared.zone.Zone.{Zone}
 use Rattle.calls.specs.declared.zone.Zone.TheVariants as zones
-use Rattle.history.specs.History.{Section, Target}
-use Rattle.history.specs.Lines.{MustBrake, MayBrake, MayRelease}
-use Rattle.history.specs.Zones.{zone_of, question, target_zone, largest_zone, is_clear}
+use Rattle.history.specs.History.{Section, SpeedCeiling, Target}
+use Rattle.history.specs.Lines.{FarAbove, MustBrake, MayBrake, MayRelease}
+use Rattle.history.specs.Zones.{excess_zone, zone_of, zone_under, question, target_zone, largest_zone, is_clear}
 use Rattle.history.specs.Step.{next_phase}
 
 -- o / u reaches the place, and c covers o / u.
@@ -70,48 +69,60 @@ clear_may_release (strong e c) front place s h =
           absurd (some h)
     ]
 
-max_number : (z w : Zone) → zone_number (max_zone z w) ≡ max (zone_number z) (zone_number w)
-max_number z w = grind arith
+-- Of two zones the larger.
+pub first_control : (z w : Zone) → z ≡ zones.Control → max_zone z w ≡ zones.Control
+first_control z w e = grind arith
 
-at_least_control : (z : Zone) → 3 ≤ zone_number z → z ≡ zones.Control
-at_least_control z l = grind arith
+pub second_control : (z w : Zone) → w ≡ zones.Control → max_zone z w ≡ zones.Control
+second_control z w e = grind arith
 
-at_most_clear : (z : Zone) → zone_number z ≤ 0 → z ≡ zones.Clear
-at_most_clear z l = grind arith
+pub either_control : (z w : Zone) → max_zone z w ≡ zones.Control → (z ≡ zones.Control) ⊎ (w ≡ zones.Control)
+either_control z w e = grind arith
+
+pub both_clear : (z w : Zone) → max_zone z w ≡ zones.Clear → (z ≡ zones.Clear) × (w ≡ zones.Clear)
+both_clear z w e = grind arith
+
+-- The zone under a ceiling says how far above it the train is.
+pub far_control : (o : Option ℕ) (c : SpeedCeiling) (speed : ℕ) → o ≡ Some c.speed → FarAbove speed c → zone_under o speed ≡ zones.Control
+far_control o c speed e l = rw e (let far : 100 < speed - c.speed = omega arith in grind (arith, nat_tests))
+
+above_far : (excess : ℕ) → excess_zone excess ≡ zones.Control → 100 < excess
+above_far excess e = grind (arith, nat_tests)
+
+pub control_far : (o : Option ℕ) (speed : ℕ) → zone_under o speed ≡ zones.Control → (v : ℕ) × (o ≡ Some v) × ((c : SpeedCeiling) → c.speed ≡ v → FarAbove speed c)
+control_far None speed e = grind arith
+control_far (Some v) speed e = (v, refl, λ c same. omega (arith, above_far (speed - v) e, same))
+
+above_none : (excess : ℕ) → excess_zone excess ≡ zones.Clear → excess ≡ 0
+above_none excess e = grind (arith, nat_tests)
+
+pub clear_under : (o : Option ℕ) (c speed : ℕ) → o ≡ Some c → zone_under o speed ≡ zones.Clear → speed ≤ c
+clear_under o c speed e k = let none : speed - c ≡ 0 = above_none (speed - c) (rw e at k) in omega arith
 
 module _ (m : Meaning) (xs : List Section) (front v : ℕ) where
   -- a binding target has the zone of its verdict
   pub binding_zone : (t : Target) → Binds m (question xs front v t) → target_zone m xs front v t ≡ zone_of (m.verdict (question xs front v t)) front t.place
   binding_zone t b = grind arith
 
-  most : (ts : List Target) (t : Target) → In t ts → zone_number (target_zone m xs front v t) ≤ zone_number (largest_zone m xs front v ts)
-  most [] t i = absurd i
-  most (u ∷ us) t (inl e) = search rules
-  most (u ∷ us) t (inr i) =
-      omega (arith, most us t i, max_number (target_zone m xs front v u) (largest_zone m xs front v us))
-
   -- one in control makes the largest so
   pub one_control : (ts : List Target) (t : Target) → In t ts → target_zone m xs front v t ≡ zones.Control → largest_zone m xs front v ts ≡ zones.Control
-  one_control ts t i e = let n : zone_number (target_zone m xs front v t) ≡ 3 = ap zone_number e in at_least_control _ (omega (arith, most ts t i))
+  one_control [] t i e = absurd i
+  one_control (u ∷ us) t (inl same) e = first_control _ _ (ap (λ (t : Target). target_zone m xs front v t) (sym same) ∙ e)
+  one_control (u ∷ us) t (inr i) e = second_control _ _ (one_control us t i e)
 
   -- where the largest is clear, all are
   pub all_clear : (ts : List Target) (t : Target) → In t ts → largest_zone m xs front v ts ≡ zones.Clear → target_zone m xs front v t ≡ zones.Clear
-  all_clear ts t i e = let n : zone_number (largest_zone m xs front v ts) ≡ 0 = ap zone_number e in at_most_clear _ (omega (arith, most ts t i))
+  all_clear [] t i e = absurd i
+  all_clear (u ∷ us) t (inl same) e = ap (λ (t : Target). target_zone m xs front v t) same ∙ (both_clear _ _ e).0
+  all_clear (u ∷ us) t (inr i) e = all_clear us t i (both_clear _ _ e).1
 
   -- where the largest is control, some binding target's is
   pub some_control : (ts : List Target) → largest_zone m xs front v ts ≡ zones.Control → (t : Target) × In t ts × Binds m (question xs front v t) × (target_zone m xs front v t ≡ zones.Control)
   some_control [] e = grind arith
-  some_control (u ∷ us) e =
-      let n : max (zone_number (target_zone m xs front v u)) (zone_number (largest_zone m xs front v us)) ≡ 3 = grind arith in
-      elim (cases_lt (zone_number (largest_zone m xs front v us)) 3) [
-        | inl low ↦
-            let here : target_zone m xs front v u ≡ zones.Control = at_least_control _ (omega arith) in
-            elim (cases_Bool (binds m (question xs front v u))) [
-              | inl binding ↦ (u, inl refl, binding, here)
-              | inr free ↦ grind arith
-            ]
-        | inr high ↦ let w = some_control us (at_least_control _ high) in (w.0, inr w.1, w.2, w.3)
-      ]
+  some_control (u ∷ us) e = elim (either_control _ _ e) [
+    | inl here ↦ elim (cases_Bool (binds m (question xs front v u))) [ inl binding ↦ (u, inl refl, binding, here) | inr free ↦ grind arith ]
+    | inr there ↦ let w = some_control us there in (w.0, inr w.1, w.2, w.3)
+  ]
 
 -- The phase after a sample.
 pub next_control : (p : Phase) (z : Zone) → z ≡ zones.Control → next_phase p z ≡ Emergency

@@ -1,4 +1,4 @@
--- A run worked out in numbers, and histories that the three lines rule out.
+-- Runs worked out in numbers, and histories that the three lines rule out.
 use Rattle.std.specs.Prelude.{◌≡◌, ◌*◌, cond, List, [], ◌∷◌, ◌++◌, map, pos, int_lt, None, Ok}
 use Rattle.std.proofs.Common.{lit<, lit≤, mul-le-mul_right}
 use Rattle.units.specs.Fractions.{whole}
@@ -13,7 +13,7 @@ use Rattle.calls.specs.declared.call.Call.{Call}
 use Rattle.calls.specs.declared.phase.Phase.{Phase}
 use Rattle.calls.specs.declared.phase.Phase.TheVariants.{Free, Warning, Emergency}
 use Rattle.calls.specs.declared.record.Record.{Record}
-use Rattle.history.specs.History.{History, slope, announce, withdraw, sample, release}
+use Rattle.history.specs.History.{History, slope, announce, withdraw, ceiling_from, lift, sample, release}
 use Rattle.history.specs.Lines.{KeepsTheLines}
 use Rattle.history.specs.Runs.{run}
 use Rattle.history.specs.State.{empty_track, full_capacity, start}
@@ -21,7 +21,7 @@ use Rattle.history.specs.State.{empty_track, full_capacity, start}
 -- A brake that stops in ten times the speed on the level or uphill, and is too weak on any fall.
 abbrev pub tenfold : Meaning
 tenfold = record {
-  top = 50;
+  top = 500;
   deceleration = λ q. record { numerator = cond (int_lt q.grade (pos 0)) (pos 0) (pos 1000000); denominator = 1; positive = lit< tt };
   verdict = λ q. cond (int_lt q.grade (pos 0)) weak
       (strong (record {
@@ -62,15 +62,32 @@ sheet = record {
 abbrev pub calls : List Call
 calls = slope 0 (pos 4) ∷ announce 7 905 95 5 ∷ sample 0 20 ∷ sample 740 20 ∷ sample 751 20
     ∷ sample 789 20 ∷ sample 790 20 ∷ release ∷ sample 791 5 ∷ sample 791 4001 ∷ release
-    ∷ sample 791 51 ∷ withdraw 7 ∷ sample 791 50 ∷ slope 5 (pos 0) ∷ release ∷ sample 791 50 ∷ release ∷ []
+    ∷ sample 791 501 ∷ withdraw 7 ∷ sample 791 500 ∷ slope 5 (pos 0) ∷ release ∷ sample 791 500 ∷ release ∷ []
 
--- The answers' numbers and the phases after the calls, over tenfold with 10 percent cut off: the target stands at 990.
+-- Two ceilings, and three that are refused: at a taken place, too fast, too far away; samples one mm before the first, at its place up to it, above it, 50 and 51 above,
+-- 100 and 101 above one mm before the second, and at the second one above it; a release too soon, a sample at its speed, a release;
+-- a lift where none stands, the first lifted, and no ceiling in its place; 101 above the second, it is lifted, a release too soon, a sample, a refused lift, a release.
+abbrev pub ceiling_calls : List Call
+ceiling_calls = ceiling_from 1000 200 ∷ ceiling_from 2000 300 ∷ ceiling_from 1000 0 ∷ ceiling_from 3000 501 ∷ ceiling_from 1000000001 501 ∷ sample 999 500 ∷ sample 1000 200 ∷ sample 1000 201
+    ∷ sample 1000 250 ∷ sample 1000 251 ∷ sample 1999 300 ∷ sample 1999 301 ∷ sample 2000 301 ∷ release ∷ sample 2000 300 ∷ release ∷ lift 1500 ∷ lift 1000 ∷ sample 1000 500
+    ∷ sample 2000 401 ∷ lift 2000 ∷ release ∷ sample 2000 500 ∷ lift 1000000001 ∷ release ∷ []
+
+-- The history of these calls over tenfold, with 10 percent cut off.
+abbrev pub run_of : List Call → History
+run_of cs = run sheet tenfold (start (empty_track full_capacity)) cs
+
+-- The answers' numbers and the phases after the calls: the target stands at 990.
 pub record Worked : Type 0 where
-  pub numbers : map (λ (e : Record). answer_number e.answer) (run sheet tenfold (start (empty_track full_capacity)) calls)
+  pub numbers : map (λ (e : Record). answer_number e.answer) (run_of calls)
       ≡ 0 ∷ 0 ∷ 0 ∷ 0 ∷ 0 ∷ 0 ∷ 0 ∷ 12 ∷ 0 ∷ 8 ∷ 0 ∷ 0 ∷ 0 ∷ 0 ∷ 0 ∷ 12 ∷ 0 ∷ 0 ∷ []
-  pub phases : map (λ (e : Record). e.phase) (run sheet tenfold (start (empty_track full_capacity)) calls)
+  pub phases : map (λ (e : Record). e.phase) (run_of calls)
       ≡ Free ∷ Free ∷ Free ∷ Free ∷ Warning ∷ Warning ∷ Emergency ∷ Emergency ∷ Emergency ∷ Emergency ∷ Free
       ∷ Emergency ∷ Emergency ∷ Emergency ∷ Emergency ∷ Emergency ∷ Emergency ∷ Free ∷ []
+  pub ceiling_numbers : map (λ (e : Record). answer_number e.answer) (run_of ceiling_calls)
+      ≡ 0 ∷ 0 ∷ 10 ∷ 8 ∷ 7 ∷ 0 ∷ 0 ∷ 0 ∷ 0 ∷ 0 ∷ 0 ∷ 0 ∷ 0 ∷ 12 ∷ 0 ∷ 0 ∷ 10 ∷ 0 ∷ 0 ∷ 0 ∷ 0 ∷ 12 ∷ 0 ∷ 7 ∷ 0 ∷ []
+  pub ceiling_phases : map (λ (e : Record). e.phase) (run_of ceiling_calls)
+      ≡ Free ∷ Free ∷ Free ∷ Free ∷ Free ∷ Free ∷ Free ∷ Free ∷ Free ∷ Warning ∷ Warning ∷ Emergency ∷ Emergency ∷ Emergency ∷ Emergency ∷ Free
+      ∷ Free ∷ Free ∷ Free ∷ Emergency ∷ Emergency ∷ Emergency ∷ Emergency ∷ Emergency ∷ Free ∷ []
 
 -- An accepted call with the phase after it.
 abbrev pub accepted_entry : Call → Phase → Record
@@ -80,6 +97,10 @@ accepted_entry c p = record { call = c; answer = Ok None; phase = p }
 abbrev pub one_target : History
 one_target = accepted_entry (slope 0 (pos 4)) Free ∷ accepted_entry (announce 7 905 95 5) Free ∷ []
 
+-- A ceiling of speed 30 from the place 100 on.
+abbrev pub one_ceiling : History
+one_ceiling = accepted_entry (ceiling_from 100 30) Free ∷ []
+
 -- Over tenfold with 10 percent cut off.
 abbrev pub BreaksTheLines : History → Type 0
 BreaksTheLines h = KeepsTheLines sheet tenfold h → ⊥
@@ -87,22 +108,32 @@ BreaksTheLines h = KeepsTheLines sheet tenfold h → ⊥
 -- Histories that the lines rule out.
 pub record RuledOut : Type 0 where
   -- above the top speed, and the brake stays off
-  pub too_fast : BreaksTheLines (accepted_entry (sample 0 51) Free ∷ [])
+  pub too_fast : BreaksTheLines (accepted_entry (sample 0 501) Free ∷ [])
   -- at 790 with 20, 200 before the target, the brake stays off
   pub too_near : BreaksTheLines (one_target ++ accepted_entry (sample 790 20) Warning ∷ [])
   -- the brake comes on with no target
-  pub for_nothing : BreaksTheLines (accepted_entry (sample 0 50) Emergency ∷ [])
+  pub for_nothing : BreaksTheLines (accepted_entry (sample 0 500) Emergency ∷ [])
   -- the brake comes on 291 before the target, where 200 and the margin of 90 are enough
   pub too_early : BreaksTheLines (one_target ++ accepted_entry (sample 699 20) Emergency ∷ [])
   -- a sample lets the brake go
-  pub unasked : BreaksTheLines (accepted_entry (sample 0 51) Emergency ∷ accepted_entry (sample 0 20) Free ∷ [])
+  pub unasked : BreaksTheLines (accepted_entry (sample 0 501) Emergency ∷ accepted_entry (sample 0 20) Free ∷ [])
   -- the brake is let go after a sample that was too fast
-  pub too_soon : BreaksTheLines (accepted_entry (sample 0 51) Emergency ∷ accepted_entry release Free ∷ [])
+  pub too_soon : BreaksTheLines (accepted_entry (sample 0 501) Emergency ∷ accepted_entry release Free ∷ [])
   -- the brake is let go after a sample 250 before the target, where the nominal distance is 300
   pub not_yet : BreaksTheLines (one_target ++ accepted_entry (sample 790 20) Emergency ∷ accepted_entry (sample 740 20) Emergency ∷ accepted_entry release Free ∷ [])
   -- far from a target, but with no section known: the steepest fall, where tenfold is weak
   pub unknown_grade : BreaksTheLines (accepted_entry (announce 7 905 95 5) Free ∷ accepted_entry (sample 0 20) Free ∷ [])
   -- the brake comes on for a target that was withdrawn
   pub withdrawn : BreaksTheLines (one_target ++ accepted_entry (withdraw 7) Free ∷ accepted_entry (sample 790 20) Emergency ∷ [])
+  -- 101 above the ceiling at its very place, and the brake stays off
+  pub far_above : BreaksTheLines (one_ceiling ++ accepted_entry (sample 100 131) Warning ∷ [])
+  -- the brake comes on 100 above the ceiling
+  pub near_above : BreaksTheLines (one_ceiling ++ accepted_entry (sample 100 130) Emergency ∷ [])
+  -- the brake comes on one mm before the ceiling
+  pub before_it : BreaksTheLines (one_ceiling ++ accepted_entry (sample 99 131) Emergency ∷ [])
+  -- the brake comes on for a ceiling that was lifted
+  pub lifted : BreaksTheLines (one_ceiling ++ accepted_entry (lift 100) Free ∷ accepted_entry (sample 100 131) Emergency ∷ [])
+  -- the brake is let go after a sample one tenth above the ceiling
+  pub still_above : BreaksTheLines (one_ceiling ++ accepted_entry (sample 100 131) Emergency ∷ accepted_entry (sample 100 31) Emergency ∷ accepted_entry release Free ∷ [])
   -- the brake comes on in a call that is no sample
   pub no_sample : BreaksTheLines (accepted_entry (slope 0 (pos 4)) Emergency ∷ [])

@@ -6,10 +6,10 @@ use Rattle.sheet.specs.declared.values.Values.{Values}
 use Rattle.braking.specs.Meaning.{Meaning, Question, Binds}
 use Rattle.calls.specs.Answers.{Answer}
 use Rattle.calls.specs.declared.call.Call.{Call}
-use Rattle.calls.specs.declared.call.Call.TheVariants.{Slope, Announce, Withdraw, Sample, Release}
+use Rattle.calls.specs.declared.call.Call.TheVariants.{Slope, Announce, Withdraw, Ceiling, Lift, Sample, Release}
 use Rattle.calls.specs.declared.record.Record.{Record}
 
--- The five calls, over plain numbers: mm, thousandths, tenths of km/h.
+-- The calls, over plain numbers: mm, thousandths, tenths of km/h.
 abbrev pub slope : (place : ℕ) (grade : ℤ) → Call
 slope place grade = Slope (record { millimetres = place }) (record { thousandths = grade })
 
@@ -18,6 +18,12 @@ announce number point distance speed = Announce number (record { millimetres = p
 
 abbrev pub withdraw : (number : ℕ) → Call
 withdraw number = Withdraw number
+
+abbrev pub ceiling_from : (place speed : ℕ) → Call
+ceiling_from place speed = Ceiling (record { millimetres = place }) (record { tenths = speed })
+
+abbrev pub lift : (place : ℕ) → Call
+lift place = Lift (record { millimetres = place })
 
 abbrev pub sample : (front speed : ℕ) → Call
 sample front speed = Sample (record { millimetres = front }) (record { tenths = speed })
@@ -57,6 +63,21 @@ pub record Target : Type 0 where
   pub place : ℕ
   pub speed : ℕ
 
+-- From its place on, up to the next one's, the speed is at most the ceiling's.
+pub record SpeedCeiling : Type 0 where
+  pub place : ℕ
+  pub speed : ℕ
+
+-- An accepted call added it, and no call accepted after that took it out.
+pub record StandsSince (h : History) (adds : Call → Type 0) (takes_out : Call) : Type 0 where
+  pub before : History
+  pub entry : Record
+  pub after : History
+  pub split : h ≡ before ++ entry ∷ after
+  pub added : adds entry.call
+  pub accepted : WasAccepted entry.answer
+  pub kept : AcceptedIn after takes_out → ⊥
+
 -- A section stands if an accepted call added it: no call takes one out.
 abbrev pub SectionStands : History → Section → Type 0
 SectionStands h x = AcceptedIn h (slope x.place x.grade)
@@ -65,27 +86,42 @@ SectionStands h x = AcceptedIn h (slope x.place x.grade)
 abbrev pub target_place : (sheet : Values) (point distance : ℕ) → ℕ
 target_place sheet point distance = (point + distance) - ceiling (distance * sheet.eps) 100
 
--- A target stands if an accepted call announced it and no call accepted after that withdrew its number.
-pub record TargetStands (sheet : Values) (h : History) (t : Target) : Type 0 where
-  pub before : History
-  pub entry : Record
-  pub after : History
+-- The call announces the target.
+pub record Announces (sheet : Values) (t : Target) (c : Call) : Type 0 where
   pub point : ℕ
   pub distance : ℕ
-  pub split : h ≡ before ++ entry ∷ after
-  pub announced : Accepts entry (announce t.number point distance t.speed)
+  pub call : c ≡ announce t.number point distance t.speed
   pub placed : t.place ≡ target_place sheet point distance
-  pub kept : AcceptedIn after (withdraw t.number) → ⊥
+
+-- A target stands if an accepted call announced it and no call accepted after that withdrew its number.
+abbrev pub TargetStands : (sheet : Values) → History → Target → Type 0
+TargetStands sheet h t = StandsSince h (Announces sheet t) (withdraw t.number)
+
+-- The call adds the ceiling.
+abbrev pub Adds : SpeedCeiling → Call → Type 0
+Adds c x = x ≡ ceiling_from c.place c.speed
+
+-- A ceiling stands if an accepted call added it and no call accepted after that lifted the one at its place.
+abbrev pub CeilingStands : History → SpeedCeiling → Type 0
+CeilingStands h c = StandsSince h (Adds c) (lift c.place)
 
 -- The grade before the first section: the steepest fall.
 abbrev pub steepest : ℤ
 steepest = STEEPEST_FALL.thousandths
 
--- The section that holds at place p: of those that stand, the one with the greatest place up to p.
-pub record SectionHolds (h : History) (p : ℕ) (x : Section) : Type 0 where
-  pub stands : SectionStands h x
-  pub begun : x.place ≤ p
-  pub last : (y : Section) → SectionStands h y → y.place ≤ p → y.place ≤ x.place
+-- Of those that stand, the one with the greatest place up to p.
+pub record LastUpTo {X : Type 0} (Stands : X → Type 0) (place : X → ℕ) (p : ℕ) (x : X) : Type 0 where
+  pub stands : Stands x
+  pub begun : place x ≤ p
+  pub last : (y : X) → Stands y → place y ≤ p → place y ≤ place x
+
+-- The section that holds at place p.
+abbrev pub SectionHolds : History → ℕ → Section → Type 0
+SectionHolds h p x = LastUpTo (SectionStands h) (λ (y : Section). y.place) p x
+
+-- The ceiling that holds at place p. Where every one that stands begins further on, there is none.
+abbrev pub CeilingHolds : History → ℕ → SpeedCeiling → Type 0
+CeilingHolds h p c = LastUpTo (CeilingStands h) (λ (d : SpeedCeiling). d.place) p c
 
 -- The grade at place p is g: that of the section that holds there, or the steepest where every one that stands begins further on.
 abbrev pub GradeAt : History → ℕ → ℤ → Type 0

@@ -1,12 +1,12 @@
 -- The three lines that every history of a mission keeps.
-use Rattle.std.specs.Prelude.{◌≡◌, ℕ, ◌*◌, ◌<◌, ◌≤◌, ◌⊎◌, [], ◌∷◌, ◌++◌, ℤ}
+use Rattle.std.specs.Prelude.{◌≡◌, ℕ, ◌+◌, ◌*◌, ◌<◌, ◌≤◌, ◌⊎◌, [], ◌∷◌, ◌++◌, ℤ}
 use Rattle.sheet.specs.declared.values.Values.{Values}
 use Rattle.units.specs.Fractions.{Fraction, whole, ◌≼◌, ◌≺◌, ◌⊕◌, ◌⊗◌}
 use Rattle.braking.specs.Meaning.{Meaning, Question, Verdict, weak, strong}
 use Rattle.calls.specs.declared.phase.Phase.{Phase}
 use Rattle.calls.specs.declared.phase.Phase.TheVariants.{Free, Emergency}
 use Rattle.calls.specs.declared.record.Record.{Record}
-use Rattle.history.specs.History.{History, Target, Accepts, Bound, GradeAhead, WasAccepted, sample, release}
+use Rattle.history.specs.History.{History, SpeedCeiling, Target, Accepts, Bound, CeilingHolds, CeilingStands, GradeAhead, WasAccepted, sample, release}
 
 -- The distance left is the place less the front, below zero once the place is passed.
 -- It is compared by adding the front on the other side, so that no number is below zero.
@@ -38,6 +38,10 @@ abbrev pub MayRelease : Verdict → (front place : ℕ) → Type 0
 MayRelease weak front place = ⊥
 MayRelease (strong exact computed) front place = LeftAbove front place exact.nominal
 
+-- The speed is more than 100 tenths of km/h above the ceiling.
+abbrev pub FarAbove : (speed : ℕ) → SpeedCeiling → Type 0
+FarAbove speed c = c.speed + 100 < speed
+
 -- The phase after a history: the last entry's, and p if it has none.
 abbrev pub last_phase : Phase → History → Phase
 last_phase p [] = p
@@ -51,17 +55,20 @@ OnAfter h = last_phase Free h ≡ Emergency
 abbrev pub On : Record → Type 0
 On e = e.phase ≡ Emergency
 
--- After an accepted sample above the top speed the brake is on; so it is after one up to the top with a binding target for which it must.
+-- After an accepted sample above the top speed the brake is on; so it is after one up to the top with a binding target for which it must,
+-- and after any that is far above the ceiling at the front.
 pub record BrakesInTime (sheet : Values) (m : Meaning) (before : History) (e : Record) : Type 0 where
   pub too_fast : (front speed : ℕ) → Accepts e (sample front speed) → m.top < speed → On e
   pub too_near : (front speed : ℕ) → Accepts e (sample front speed) → speed ≤ m.top →
       (t : Target) (q : Question) → Bound sheet m before front speed t q → MustBrake (m.verdict q) front t.place → On e
+  pub too_far_above : (front speed : ℕ) → Accepts e (sample front speed) → (c : SpeedCeiling) → CeilingHolds before front c → FarAbove speed c → On e
 
--- What allows the brake to come on at a sample: above the top, or a binding target that is weak or too near.
+-- What allows the brake to come on at a sample: above the top, or a binding target that is weak or too near, or far above the ceiling at the front.
 abbrev pub Reason : (sheet : Values) → Meaning → History → (front speed : ℕ) → Type 0
 Reason sheet m before front speed =
     (m.top < speed)
     ⊎ ((speed ≤ m.top) × ((t : Target) × (q : Question) × Bound sheet m before front speed t q × MayBrake (m.verdict q) front t.place))
+    ⊎ ((c : SpeedCeiling) × CeilingHolds before front c × FarAbove speed c)
 
 -- The brake comes on only in an accepted sample with a reason.
 abbrev pub BrakesForAReason : (sheet : Values) → Meaning → History → Record → Type 0
@@ -74,7 +81,7 @@ pub record LastAccepted (h before : History) (entry : Record) : Type 0 where
   pub split : h ≡ before ++ entry ∷ after
   pub refused : (b : History) (e : Record) (a : History) → after ≡ b ++ e ∷ a → WasAccepted e.answer → ⊥
 
--- The last accepted call of the history is a sample up to the top speed at which every binding target lets the brake go.
+-- The last accepted call of the history is a sample up to the top speed, not above the ceiling at its front, at which every binding target lets the brake go.
 pub record LastSampleJustifies (sheet : Values) (m : Meaning) (h : History) : Type 0 where
   pub before : History
   pub entry : Record
@@ -83,8 +90,9 @@ pub record LastSampleJustifies (sheet : Values) (m : Meaning) (h : History) : Ty
   pub speed : ℕ
   pub sampled : Accepts entry (sample front speed)
   pub not_too_fast : speed ≤ m.top
-  -- of the targets that stood when it was taken
+  -- of the targets and ceilings that stood when it was taken
   pub all_let_go : (t : Target) (q : Question) → Bound sheet m before front speed t q → MayRelease (m.verdict q) front t.place
+  pub not_above : (c : SpeedCeiling) → CeilingHolds before front c → speed ≤ c.speed
 
 -- The brake goes off only by an accepted release after such a sample.
 abbrev pub LetsGoWhenJustified : (sheet : Values) → Meaning → History → Record → Type 0
@@ -107,3 +115,12 @@ HasOneGrade h = (front place : ℕ) → (g : ℤ) × GradeAhead h front place g 
 -- So it is before each entry: the lines speak of something.
 abbrev pub GivesOneGrade : History → Type 0
 GivesOneGrade h = (before : History) (e : Record) (after : History) → h ≡ before ++ e ∷ after → HasOneGrade before
+
+-- At every place one ceiling holds and no other, or every one that stands begins further on.
+abbrev pub HasOneCeilingAtMost : History → Type 0
+HasOneCeilingAtMost h = (p : ℕ) →
+    ((c : SpeedCeiling) × CeilingHolds h p c × ((d : SpeedCeiling) → CeilingHolds h p d → d ≡ c)) ⊎ ((d : SpeedCeiling) → CeilingStands h d → p < d.place)
+
+-- So it is before each entry: the lines speak of something.
+abbrev pub GivesOneCeilingAtMost : History → Type 0
+GivesOneCeilingAtMost h = (before : History) (e : Record) (after : History) → h ≡ before ++ e ∷ after → HasOneCeilingAtMost before

@@ -6,7 +6,7 @@ use Rattle.braking.specs.Meaning.{Meaning}
 use Rattle.calls.specs.declared.call.Call.{Call}
 use Rattle.history.specs.Agrees.{Agrees}
 use Rattle.history.specs.History.{History}
-use Rattle.history.specs.Lines.{GivesOneGrade, KeepsTheLines}
+use Rattle.history.specs.Lines.{GivesOneCeilingAtMost, GivesOneGrade, KeepsTheLines}
 use Rattle.history.specs.Runs.{entry_of, run}
 use Rattle.history.specs.State.{Capacity, empty_track, State, Valid, start}
 use Rattle.history.specs.Step.{step}
@@ -20,6 +20,11 @@ EveryRunKeepsTheLines = (sheet : Values) (m : Meaning) → Lawful m → (capacit
 abbrev pub EveryStretchHasOneGrade : Type 0
 EveryStretchHasOneGrade = (sheet : Values) (m : Meaning) (capacity : Capacity) (calls : List Call) →
     GivesOneGrade (run sheet m (start (empty_track capacity)) calls)
+
+-- In the history of a run at every place one ceiling holds, or none has begun.
+abbrev pub EveryPlaceHasOneCeilingAtMost : Type 0
+EveryPlaceHasOneCeilingAtMost = (sheet : Values) (m : Meaning) (capacity : Capacity) (calls : List Call) →
+    GivesOneCeilingAtMost (run sheet m (start (empty_track capacity)) calls)
 
 -- A mission as opened agrees with the empty history.
 abbrev pub TheStartAgrees : Type 0

@@ -1,11 +1,11 @@
--- The zone of a sample: how near the train is to the nearest of its braking distances.
-use Rattle.std.specs.Prelude.{ℕ, ◌+◌, Bool, true, false, cond, List, [], ◌∷◌, ℤ, nat_le, nat_lt}
+-- The zone of a sample: how near the train is to the nearest of its braking distances, and how far above the ceiling at its front.
+use Rattle.std.specs.Prelude.{ℕ, ◌+◌, ◌-◌, Bool, true, false, cond, List, [], ◌∷◌, ℤ, Some, None, Option, nat_le, nat_lt}
 use Rattle.std.specs.Int.{int_min}
 use Rattle.braking.specs.Meaning.{Meaning, Question, Verdict, binds, weak, strong}
 use Rattle.calls.specs.Zones.{max_zone}
 use Rattle.calls.specs.declared.zone.Zone.{Zone}
 use Rattle.calls.specs.declared.zone.Zone.TheVariants as zones
-use Rattle.history.specs.History.{Section, Target, steepest}
+use Rattle.history.specs.History.{Section, SpeedCeiling, Target, steepest}
 use Rattle.history.specs.State.{Track}
 
 -- The least grade of the stretch from front to place, both ends counted, and of a passed place the grade at the front.
@@ -41,9 +41,36 @@ abbrev pub largest_zone : Meaning → List Section → (front speed : ℕ) → L
 largest_zone m xs front speed [] = zones.Clear
 largest_zone m xs front speed (t ∷ ts) = max_zone (target_zone m xs front speed t) (largest_zone m xs front speed ts)
 
--- The zone of a sample: control above the top speed.
+-- What holds at a place: the value of the last item that begins up to it. The items ascend; v holds before the first of them, and then that of the last so far.
+abbrev pub held_at : {X V : Type 0} → (place : X → ℕ) → (value : X → V) → V → List X → (p : ℕ) → V
+held_at place value v [] p = v
+held_at place value v (x ∷ xs) p = cond (nat_le (place x) p) (held_at place value (value x) xs p) v
+
+-- The speed of the ceiling at the front, if there is one.
+abbrev pub ceiling_speed_at : List SpeedCeiling → (front : ℕ) → Option ℕ
+ceiling_speed_at cs front = held_at (λ (c : SpeedCeiling). c.place) (λ (c : SpeedCeiling). Some c.speed) None cs front
+
+-- The zone by how many tenths of km/h a train is above the ceiling.
+abbrev pub excess_zone : (excess : ℕ) → Zone
+excess_zone excess =
+    cond (nat_lt 100 excess) zones.Control
+    (cond (nat_lt 50 excess) zones.Warning
+    (cond (nat_lt 0 excess) zones.Nominal zones.Clear))
+
+-- The zone under a ceiling of that speed, if there is one.
+abbrev pub zone_under : (ceiling : Option ℕ) → (speed : ℕ) → Zone
+zone_under None speed = zones.Clear
+zone_under (Some c) speed = excess_zone (speed - c)
+
+-- The zone by the ceiling at the front.
+abbrev pub ceiling_zone : List SpeedCeiling → (front speed : ℕ) → Zone
+ceiling_zone cs front speed = zone_under (ceiling_speed_at cs front) speed
+
+-- The zone of a sample: the larger of the targets' and the ceiling's, and control above the top speed.
 abbrev pub zone : Meaning → Track → (front speed : ℕ) → Zone
-zone m t front speed = cond (nat_lt m.top speed) zones.Control (largest_zone m t.sections.items front speed t.targets.items)
+zone m t front speed =
+    cond (nat_lt m.top speed) zones.Control
+    (max_zone (largest_zone m t.sections.items front speed t.targets.items) (ceiling_zone t.ceilings.items front speed))
 
 -- The zone is 0.
 abbrev pub is_clear : Zone → Bool

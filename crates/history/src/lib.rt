@@ -2,7 +2,7 @@
 
 ghost use Rattle.braking.specs.Laws.{Lawful};
 ghost use Rattle.history.specs.Examples.{RuledOut, Worked, tenfold};
-ghost use Rattle.history.specs.Theorem.{EveryRunKeepsTheLines, EveryStepAgrees, EveryStepKeepsValid, EveryStretchHasOneGrade, TheStartAgrees};
+ghost use Rattle.history.specs.Theorem.{EveryPlaceHasOneCeilingAtMost, EveryRunKeepsTheLines, EveryStepAgrees, EveryStepKeepsValid, EveryStretchHasOneGrade, TheStartAgrees};
 
 // A mission as opened agrees with the empty history.
 pub fn the_start_agrees()
@@ -29,7 +29,12 @@ pub fn every_stretch_has_one_grade()
     ensures { EveryStretchHasOneGrade }
 {}
 
-// A run worked out in numbers over a lawful model, and histories that the three lines rule out.
+// At every place one ceiling holds, or none has begun, so that the lines speak of one at most.
+pub fn every_place_has_one_ceiling_at_most()
+    ensures { EveryPlaceHasOneCeilingAtMost }
+{}
+
+// Runs worked out in numbers over a lawful model, and histories that the three lines rule out.
 pub fn worked_histories()
     ensures lawful { Lawful tenfold }
     ensures worked { Worked }

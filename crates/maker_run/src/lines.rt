@@ -7,7 +7,7 @@ use std::io;
 use supervision::{Stretch, target_place};
 use units::{Distance, Speed};
 
-// A call, for a sample the question that its target is judged by, and what the call was answered.
+// A call, for a sample the question that its target is judged by, and what the call was answered. Its zone may be the ceiling's, which no question asks for.
 pub(crate) fn show_record(
     rt: &impl Print,
     brake: &ConstantBrake,

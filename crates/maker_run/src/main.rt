@@ -1,6 +1,6 @@
 #![tactic(auto)]
 
-// A mission with a maker's own brake: a short approach to a target on a falling grade, call by call.
+// A mission with a maker's own brake: a short approach to a target on a falling grade, and into a yard with a ceiling, call by call.
 mod driving;
 mod lines;
 mod script;

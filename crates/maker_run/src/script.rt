@@ -60,8 +60,15 @@ pub(crate) const DISTANCE: Distance = Distance {
 
 pub(crate) const ALLOWED: Speed = Speed { tenths: 300 };
 
-// The calls: the track, the target, then the train runs up to it.
-pub(crate) const CALLS: [Call; 13] = [
+// Behind the target a yard begins, where no more than 15 km/h is allowed.
+const YARD: Distance = Distance {
+    millimetres: 2_600_000,
+};
+
+const YARD_SPEED: Speed = Speed { tenths: 150 };
+
+// The calls: the track, the target and the yard, then the train runs up to the one and into the other.
+pub(crate) const CALLS: [Call; 24] = [
     Call::Slope {
         place: START,
         grade: GENTLE,
@@ -75,6 +82,10 @@ pub(crate) const CALLS: [Call; 13] = [
         point: POINT,
         distance: DISTANCE,
         speed: ALLOWED,
+    },
+    Call::Ceiling {
+        place: YARD,
+        speed: YARD_SPEED,
     },
     Call::Sample {
         place: Distance {
@@ -120,5 +131,45 @@ pub(crate) const CALLS: [Call; 13] = [
             millimetres: 2_552_000,
         },
         speed: Speed { tenths: 290 },
+    },
+    Call::Sample {
+        place: Distance {
+            millimetres: 2_599_999,
+        },
+        speed: Speed { tenths: 290 },
+    },
+    Call::Sample {
+        place: Distance {
+            millimetres: 2_600_000,
+        },
+        speed: Speed { tenths: 220 },
+    },
+    Call::Sample {
+        place: Distance {
+            millimetres: 2_640_000,
+        },
+        speed: Speed { tenths: 251 },
+    },
+    Call::Release,
+    Call::Sample {
+        place: Distance {
+            millimetres: 2_660_000,
+        },
+        speed: Speed { tenths: 160 },
+    },
+    Call::Release,
+    Call::Sample {
+        place: Distance {
+            millimetres: 2_680_000,
+        },
+        speed: Speed { tenths: 150 },
+    },
+    Call::Release,
+    Call::Lift { place: YARD },
+    Call::Sample {
+        place: Distance {
+            millimetres: 2_700_000,
+        },
+        speed: Speed { tenths: 300 },
     },
 ];

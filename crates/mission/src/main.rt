@@ -6,18 +6,20 @@ use input::read_at_most;
 use place_list::Placed;
 use session::{MAX_BYTES, Shown, answer_text};
 use std::io;
-use supervision::{MAX_SECTIONS, MAX_TARGETS, Memory};
+use supervision::{MAX_CEILINGS, MAX_SECTIONS, MAX_TARGETS, Memory};
 
 fn main(rt: HostRuntime) -> io::Result<()> {
     let text = read_at_most(rt.alloc(), rt.stdin(), MAX_BYTES as u64)?;
     let mut sections = [Placed::default(); MAX_SECTIONS];
     let mut targets = [Placed::default(); MAX_TARGETS];
+    let mut ceilings = [Placed::default(); MAX_CEILINGS];
     // a line has at least one byte, so that this is room for all
     let mut records = vec![in rt.alloc(); Record::BLANK; MAX_BYTES]?;
     let mut shown = vec![in rt.alloc(); Shown::BLANK; MAX_BYTES]?;
     let memory = Memory {
         sections: &mut sections,
         targets: &mut targets,
+        ceilings: &mut ceilings,
     };
     match answer_text(text.as_slice(), memory, &mut records, &mut shown) {
         Ok(answered) => {

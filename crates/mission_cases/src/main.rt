@@ -8,12 +8,14 @@ use place_list::Placed;
 use session::{MAX_BYTES, Shown, answer_text};
 use std::io;
 use supervision::{Memory, Target};
-use units::Grade;
+use units::{Grade, Speed};
 
 // More memory than a mission's lists use, so that their limits show.
 const SECTION_MEMORY: usize = 70;
 
 const TARGET_MEMORY: usize = 40;
+
+const CEILING_MEMORY: usize = 50;
 
 fn main(rt: HostRuntime) -> io::Result<()> {
     let texts = read_at_most(rt.alloc(), rt.stdin(), MAX_BYTES_OF_TEXTS)?;
@@ -40,9 +42,11 @@ fn show_mission(
 ) -> io::Result<()> {
     let mut sections = [Placed::<Grade>::default(); SECTION_MEMORY];
     let mut targets = [Placed::<Target>::default(); TARGET_MEMORY];
+    let mut ceilings = [Placed::<Speed>::default(); CEILING_MEMORY];
     let memory = Memory {
         sections: &mut sections,
         targets: &mut targets,
+        ceilings: &mut ceilings,
     };
     match answer_text(text, memory, records, shown) {
         Ok(answered) => {
@@ -65,13 +69,15 @@ mod tests {
     const TEXT: &[u8] =
         b"model=scmt\nregime=E\ntrain=V\nbrake=V\nep=0\nlambda=100\nlength=400\nlfren=LD\nkr=100\ntw=20\nti=30\neps=0\ncall=release\ncall=\ncall=slope place=0 grade=0\ncall=release\ncall=release\n";
 
-    // How much is answered, in lists that hold one section and one target.
+    // How much is answered, in lists that hold one section, one target and one ceiling.
     fn answer_in_small_lists(records: &mut [Record], shown: &mut [Shown]) -> Option<Answered> {
         let mut sections = [Placed::<Grade>::default(); 1];
         let mut targets = [Placed::<Target>::default(); 1];
+        let mut ceilings = [Placed::<Speed>::default(); 1];
         let memory = Memory {
             sections: &mut sections,
             targets: &mut targets,
+            ceilings: &mut ceilings,
         };
         answer_text(TEXT, memory, records, shown).ok()
     }
@@ -138,6 +144,37 @@ mod tests {
                 calls: 0,
                 ended: false
             })
+        );
+        Ok(())
+    }
+
+    // A sheet, then a ceiling, a second one, a lift of the first, the second again, and a section and a target, for which there is no room either.
+    const CEILING_TEXT: &[u8] =
+        b"model=scmt\nregime=E\ntrain=V\nbrake=V\nep=0\nlambda=100\nlength=400\nlfren=LD\nkr=100\ntw=20\nti=30\neps=0\ncall=ceiling place=5 speed=300\ncall=ceiling place=9 speed=500\ncall=lift place=5\ncall=ceiling place=9 speed=500\ncall=slope place=0 grade=0\ncall=announce number=1 point=0 distance=9 speed=0\n";
+
+    // The numbers that the lines are answered, in memory for so many ceilings and nothing else.
+    fn numbers_in_ceilings(ceilings: &mut [Placed<Speed>]) -> [u8; 6] {
+        let memory = Memory {
+            sections: &mut [],
+            targets: &mut [],
+            ceilings,
+        };
+        let mut records = [Record::BLANK; 6];
+        let mut shown = [Shown::BLANK; 6];
+        let _ = answer_text(CEILING_TEXT, memory, &mut records, &mut shown);
+        shown.map(|line| line.number)
+    }
+
+    #[test]
+    fn shorter_memory_is_full_sooner(rt: HostRuntime) -> Result<(), Fail> {
+        assert_eq!(rt; numbers_in_ceilings(&mut []), [11, 11, 10, 11, 11, 11]);
+        assert_eq!(rt;
+            numbers_in_ceilings(&mut [Placed::default(); 1]),
+            [0, 11, 0, 0, 11, 11]
+        );
+        assert_eq!(rt;
+            numbers_in_ceilings(&mut [Placed::default(); 2]),
+            [0, 0, 0, 10, 11, 11]
         );
         Ok(())
     }

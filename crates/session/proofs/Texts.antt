@@ -9,9 +9,9 @@ use Rattle.models.specs.Lawfulness.{model_lawful}
 use Rattle.models.specs.Meanings.{meaning_of}
 use Rattle.calls.specs.declared.record.Record.{Record}
 use Rattle.history.specs.History.{History}
-use Rattle.history.specs.Lines.{GivesOneGrade, KeepsTheLines}
+use Rattle.history.specs.Lines.{GivesOneCeilingAtMost, GivesOneGrade, KeepsTheLines}
 use Rattle.history.specs.State.{Capacity, empty_track, State, start}
-use Rattle.history.proofs.Runs.{every_run, one_grade}
+use Rattle.history.proofs.Runs.{every_run, one_grade, one_ceiling}
 use Rattle.sheet_text.specs.Sheets.{IsText}
 use Rattle.session.specs.Answers.{AnswersLines, AnswersText}
 use Rattle.session.specs.Lines.{calls_of}
@@ -61,4 +61,5 @@ text_answered text capacity a records shown sheet valid is w = record {
   answers = w;
   keeps = subst (λ (h : History). KeepsTheLines sheet (meaning_of sheet.model sheet) h) (sym w.history) (every_run sheet (meaning_of sheet.model sheet) (model_lawful sheet.model sheet valid) capacity (calls_of w.lines));
   grades = subst GivesOneGrade (sym w.history) (one_grade sheet (meaning_of sheet.model sheet) capacity (calls_of w.lines));
+  ceilings = subst GivesOneCeilingAtMost (sym w.history) (one_ceiling sheet (meaning_of sheet.model sheet) capacity (calls_of w.lines));
 }

@@ -1,5 +1,6 @@
 mod Items
 mod Grades
+mod Holding
 mod Verdicts
 pub mod Promises
 pub mod Follows

@@ -1,5 +1,5 @@
 -- What a call of the mission promises, from what its grounds are and what it left.
-use Rattle.std.proofs.Common.{◌≡◌, ℕ, Bool, true, false, cond, not, List, [], ◌∷◌, ◌++◌, map, Some, None, Err, Option, sym, refl, ap, ◌∙◌, subst, arith}
+use Rattle.std.proofs.Common.{◌≡◌, ℕ, Bool, true, false, cond, not, List, [], ◌∷◌, ◌++◌, map, Some, None, Ok, Err, Option, sym, refl, ap, ◌∙◌, subst, arith}
 use Rattle.std.specs.Prelude.{nat_lt}
 use Rattle.units.specs.declared.quantities.Distance.{Distance}
 use Rattle.units.specs.declared.quantities.Grade.{Grade}
@@ -9,7 +9,7 @@ use Rattle.braking.specs.Laws.{Lawful}
 use Rattle.braking.specs.Meaning.{Meaning}
 use Rattle.calls.specs.Answers.{Answer}
 use Rattle.calls.specs.declared.call.Call.{Call}
-use Rattle.calls.specs.declared.call.Call.TheVariants.{Slope, Announce, Withdraw, Sample, Release}
+use Rattle.calls.specs.declared.call.Call.TheVariants.{Slope, Announce, Withdraw, Ceiling, Lift, Sample, Release}
 use Rattle.calls.specs.declared.phase.Phase.{Phase}
 use Rattle.calls.specs.declared.phase.Phase.TheVariants.{Free}
 use Rattle.calls.specs.declared.record.Record.{Record}
@@ -18,10 +18,10 @@ use Rattle.calls.specs.declared.refusal.Refusal.TheVariants.{GradeOutOfLimits, N
 use Rattle.history.specs.Agrees.{Agrees}
 use Rattle.history.specs.Runs.{entry_of}
 use Rattle.history.specs.State.{Capacity, empty_track, State, Track, Valid, is_unfit}
-use Rattle.history.specs.Step.{Ground, Stepped, decide, does, first, ground_for, grounds, limits, max_place, is_releasable, step}
+use Rattle.history.specs.Step.{Ground, Stepped, decide, does, first, ground_for, grounds, limits, max_place, is_releasable, obstacles, step}
 use Rattle.history.proofs.Runs.{start_agrees, step_agrees}
 use Rattle.supervision.proofs.Items.{kept_list, same_list, same_listing, same_tracking}
-use Rattle.supervision.specs.Items.{section_of, target_of}
+use Rattle.supervision.specs.Items.{ceiling_of, section_of, target_of}
 use Rattle.supervision.specs.Lists.{ListsKept, ListsUnaltered, track_of}
 use Rattle.supervision.specs.Missions.{Law, Made, SameTrain, entry, sheet_of, state_of}
 use Rattle.supervision.specs.declared.lists.Lists.{Lists}
@@ -50,12 +50,17 @@ does_accepts : (sheet : Values) (m : Meaning) (s : State) (c : Call) (r : Refusa
 does_accepts sheet m s (Slope p g) r e = let z : ◌≡◌ {A = ℕ} 0 1 = cc in omega arith
 does_accepts sheet m s (Announce n p d v) r e = let z : ◌≡◌ {A = ℕ} 0 1 = cc in omega arith
 does_accepts sheet m s (Withdraw n) r e = let z : ◌≡◌ {A = ℕ} 0 1 = cc in omega arith
+does_accepts sheet m s (Ceiling p v) r e = let z : ◌≡◌ {A = ℕ} 0 1 = cc in omega arith
+does_accepts sheet m s (Lift p) r e = let z : ◌≡◌ {A = ℕ} 0 1 = cc in omega arith
 does_accepts sheet m s (Sample p v) r e = let z : ◌≡◌ {A = ℕ} 0 1 = cc in omega arith
 does_accepts sheet m s Release r e = let z : ◌≡◌ {A = ℕ} 0 1 = cc in omega arith
 
 -- As the lists are left that are not altered.
 track_same : (ls ls' : Lists) → ListsUnaltered ls ls' → track_of ls' ≡ track_of ls
-track_same ls ls' u = same_tracking (same_listing (ap (map section_of) u.0.sequence_same) u.0.room_same) (same_listing (ap (map target_of) u.1.sequence_same) u.1.room_same)
+track_same ls ls' u =
+    same_tracking (same_listing (ap (map section_of) u.0.sequence_same) u.0.room_same)
+    (same_listing (ap (map target_of) u.1.sequence_same) u.1.room_same)
+    (same_listing (ap (map ceiling_of) u.2.sequence_same) u.2.room_same)
 
 module _ {M : Type 0} (meaning : M → Meaning) (c : Call) (before : Mission M) (ls ls' : Lists) (kept : ListsKept ls ls') where
   -- the call is refused, and neither the mission nor a list is altered
@@ -83,19 +88,32 @@ module _ {M : Type 0} (meaning : M → Meaning) (c : Call) (before : Mission M) 
   }
 
 pub unaltered : (ls : Lists) → ListsUnaltered ls ls
-unaltered ls = (same_list ls.sections, same_list ls.targets)
+unaltered ls = (same_list ls.sections, same_list ls.targets, same_list ls.ceilings)
 
 pub kept : (ls : Lists) → ListsKept ls ls
-kept ls = (kept_list ls.sections, kept_list ls.targets)
+kept ls = (kept_list ls.sections, kept_list ls.targets, kept_list ls.ceilings)
 
 -- A call that is refused before it comes to a list.
 pub turned_down : {M : Type 0} (meaning : M → Meaning) (c : Call) (m : Mission M) (ls : Lists) (r : Refusal) → first (grounds (meaning m.model) (state_of m ls) c) ≡ Some r → Made meaning c (Err r) m m ls ls
 turned_down meaning c m ls r e = refused meaning c m ls ls (kept ls) r e (unaltered ls)
 
+-- A call of the lists, by its own numbers and by what stands.
+module _ {M : Type 0} (meaning : M → Meaning) (c : Call) (before : Mission M) (ls : Lists) where
+  pub out_of_limits : (r : Refusal) → first (limits (meaning before.model) c) ≡ Some r → Made meaning c (Err r) before before ls ls
+  out_of_limits r e = turned_down meaning c before ls r (first_here r (limits (meaning before.model) c) (obstacles (state_of before ls) c) e)
+
+  module _ (within : first (limits (meaning before.model) c) ≡ None) (ls' : Lists) (kept : ListsKept ls ls') where
+    pub obstructed : (r : Refusal) → first (obstacles (state_of before ls) c) ≡ Some r → ListsUnaltered ls ls' → Made meaning c (Err r) before before ls ls'
+    obstructed r e u = refused meaning c before ls ls' kept r (first_behind (Some r) (limits (meaning before.model) c) (obstacles (state_of before ls) c) within e) u
+
+    pub carried_out : (after : Mission M) → first (obstacles (state_of before ls) c) ≡ None → Ok None ≡ (does (sheet_of before) (meaning before.model) (state_of before ls) c).answer →
+        state_of after ls' ≡ (does (sheet_of before) (meaning before.model) (state_of before ls) c).state → SameTrain before after → Made meaning c (Ok None) before after ls ls'
+    carried_out after e ans st same = accepted meaning c before ls ls' kept after (Ok None) (first_behind None (limits (meaning before.model) c) (obstacles (state_of before ls) c) within e) ans st same
+
 -- The law for a caller who keeps no record.
 
 pub valid : (ls : Lists) → Valid (track_of ls)
-valid ls = record { sections = ls.sections_valid; targets = ls.targets_valid }
+valid ls = record { sections = ls.sections_valid; targets = ls.targets_valid; ceilings = ls.ceilings_valid }
 
 pub law_of : {M : Type 0} (meaning : M → Meaning) → ((m : M) → Lawful (meaning m)) → {c : Call} {a : Answer} {before after : Mission M} {ls ls' : Lists} →
     Made meaning c a before after ls ls' → Law meaning c a before after ls ls'

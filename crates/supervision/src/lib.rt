@@ -1,6 +1,7 @@
 #![tactic(auto)]
 
 mod announced;
+mod ceilings;
 mod limits;
 mod lists;
 mod memory;
@@ -14,7 +15,7 @@ mod zones;
 
 pub use announced::target_place;
 pub use lists::Lists;
-pub use memory::{MAX_SECTIONS, MAX_TARGETS, Memory};
+pub use memory::{MAX_CEILINGS, MAX_SECTIONS, MAX_TARGETS, Memory};
 pub use mission::Mission;
 pub use run_outcome::RunOutcome;
 pub use running::run;

@@ -1,10 +1,12 @@
 mod applying;
+mod ceiling_calls;
 mod closing;
-mod list_calls;
 mod next_phase;
 mod opening;
 mod releasing;
 mod sampling;
+mod section_calls;
+mod target_calls;
 
 use calls::Phase;
 use sheet::Admitted;

@@ -1,5 +1,5 @@
 ghost use Rattle.std.specs.Prelude.{◌≡◌, min, map, drop, length, take};
-ghost use Rattle.history.specs.Lines.{GivesOneGrade, KeepsTheLines};
+ghost use Rattle.history.specs.Lines.{GivesOneCeilingAtMost, GivesOneGrade, KeepsTheLines};
 ghost use Rattle.history.specs.Runs.{run};
 ghost use Rattle.history.specs.State.{start};
 ghost use Rattle.supervision.specs.Lists.{opened_track};
@@ -27,6 +27,7 @@ pub fn run<M: BrakingModel + Drop>(
     ensures history { take result.calls_made records.new ≡ run sheet.values (M.BrakingModel.meaning model) (start (opened_track memory.entry)) (take result.calls_made calls.now) }
     ensures lines { KeepsTheLines sheet.values (M.BrakingModel.meaning model) (take result.calls_made records.new) }
     ensures grades { GivesOneGrade (take result.calls_made records.new) }
+    ensures ceilings { GivesOneCeilingAtMost (take result.calls_made records.new) }
     ensures rest { drop result.calls_made records.new ≡ drop result.calls_made records.old }
     ensures draft { result.draft.values ≡ sheet.values }
 {

@@ -5,6 +5,7 @@ ghost use Rattle.supervision.specs.Items.{sections_in, target_of, targets_in};
 ghost use Rattle.supervision.specs.Judging.{judged_zone};
 ghost use Rattle.supervision.specs.Lists.{track_of};
 
+use crate::ceilings::ceiling_zone;
 use crate::lists::Lists;
 use crate::stretch::Stretch;
 use crate::target::Target;
@@ -13,7 +14,7 @@ use calls::Zone;
 use place_list::Placed;
 use units::{Distance, Grade, Speed};
 
-// The zone of a sample: the largest of its targets', and control above the model's top speed.
+// The zone of a sample: the larger of its targets' and the ceiling's at its front, and control above the model's top speed.
 pub(crate) fn sample_zone<M: BrakingModel>(
     model: &M,
     lists: &Lists<'_>,
@@ -31,7 +32,9 @@ pub(crate) fn sample_zone<M: BrakingModel>(
         front,
         speed,
     };
-    train.largest_zone(lists.targets())
+    let of_targets = train.largest_zone(lists.targets());
+    let of_ceiling = ceiling_zone(lists.ceilings(), front, speed);
+    of_targets.max(of_ceiling)
 }
 
 // A train whose front is at a place, no faster than its model's top speed, with the sections of its track.

@@ -7,7 +7,7 @@ use braking::BrakingModel;
 use calls::{Answer, Call, Record};
 
 impl<M: BrakingModel> Mission<M> {
-    // Any of the five calls, with the entry that it leaves in the history.
+    // Any of the calls, with the entry that it leaves in the history.
     pub fn apply(&mut self, lists: &mut Lists<'_>, call: Call) -> Record
         ensures call { result.call ≡ call }
         ensures phase { result.phase ≡ self.new.phase }
@@ -37,6 +37,8 @@ impl<M: BrakingModel> Mission<M> {
                 .announce(lists, number, point, distance, speed)
                 .map(|_| None),
             Call::Withdraw { number } => self.withdraw(lists, number).map(|_| None),
+            Call::Ceiling { place, speed } => self.ceiling(lists, place, speed).map(|_| None),
+            Call::Lift { place } => self.lift(lists, place).map(|_| None),
             Call::Sample { place, speed } => self
                 .sample(lists, place, speed)
                 .map(|sample| Some(sample.zone)),

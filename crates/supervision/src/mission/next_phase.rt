@@ -1,4 +1,4 @@
-ghost use Rattle.std.specs.Prelude.{◌≡◌};
+ghost use Rattle.std.specs.Prelude.{◌≡◌, false};
 ghost use Rattle.history.specs.Step.{next_phase};
 ghost use Rattle.history.specs.Zones.{is_clear};
 ghost use Rattle.supervision.specs.Missions.{SameTrain};
@@ -26,5 +26,16 @@ impl<M: BrakingModel> Mission<M> {
             (Phase::Emergency, _) => Phase::Emergency,
         };
         self.clear = zone == Zone::Clear;
+    }
+
+    // Ends an accepted call that is no sample: the phase stays, and no release is due until a sample in zone 0.
+    pub(super) fn accept(&mut self) -> Phase
+        ensures value { result ≡ self.new.phase }
+        ensures phase { self.new.phase ≡ self.old.phase }
+        ensures clear { self.new.clear ≡ false }
+        ensures train { SameTrain self.old self.new }
+    {
+        self.clear = false;
+        self.phase
     }
 }

@@ -1,10 +1,10 @@
 use Rattle.std.proofs.Common.{◌≡◌, ◌∙◌, ap, map, subst, sym, take}
 use Rattle.calls.specs.declared.record.Record.{Record}
 use Rattle.history.specs.History.{History}
-use Rattle.history.specs.Lines.{GivesOneGrade, KeepsTheLines}
+use Rattle.history.specs.Lines.{GivesOneCeilingAtMost, GivesOneGrade, KeepsTheLines}
 use Rattle.history.specs.Runs.{run}
 use Rattle.history.specs.State.{empty_track, start}
-use Rattle.history.proofs.Runs.{every_run, one_grade}
+use Rattle.history.proofs.Runs.{every_run, one_grade, one_ceiling}
 use Rattle.sheet.specs.declared.admitted.Admitted.{Admitted}
 use Rattle.supervision.specs.Lists.{capacity_of, opened_track}
 use Rattle.supervision.proofs.Follows.{opened_run, run_calls}
@@ -27,6 +27,7 @@ returns g c =
       history = history;
       lines = subst (λ (h : History). KeepsTheLines c.args.sheet.values (g.M.BrakingModel.meaning c.args.model) h) (sym history) (every_run sheet m (g.met.M.BrakingModel.lawful c.args.model) capacity (take made c.args.calls.now));
       grades = subst GivesOneGrade (sym history) (one_grade sheet m capacity (take made c.args.calls.now));
+      ceilings = subst GivesOneCeilingAtMost (sym history) (one_ceiling sheet m capacity (take made c.args.calls.now));
       rest = c.make_calls-calls_made.ensures.rest;
       draft = c.close.ensures ∙ ap (λ (s : Admitted). s.values) (c.make_calls-calls_made.ensures.train.sheet ∙ o.sheet);
     }

@@ -1,37 +1,19 @@
-ghost use Rattle.std.specs.Prelude.{◌≡◌, false, IfOk};
-ghost use Rattle.calls.specs.declared.call.Call.TheVariants.{Announce, Slope, Withdraw};
+ghost use Rattle.std.specs.Prelude.{◌≡◌, IfOk};
+ghost use Rattle.calls.specs.declared.call.Call.TheVariants.{Announce, Withdraw};
 ghost use Rattle.supervision.specs.Limits.{AnnouncedPlace};
-ghost use Rattle.supervision.specs.Missions.{Law, Made, SameTrain, answer_of, sheet_of};
+ghost use Rattle.supervision.specs.Missions.{Law, Made, answer_of, sheet_of};
 
 use crate::announced::target_place;
-use crate::limits::check_slope;
+use crate::limits::check_speed;
 use crate::lists::Lists;
 use crate::mission::Mission;
 use crate::target::Target;
 use braking::BrakingModel;
 use calls::{Phase, Refusal};
 use place_list::Placed;
-use units::{Distance, Grade, Speed};
+use units::{Distance, Speed};
 
 impl<M: BrakingModel> Mission<M> {
-    // Adds a section of this grade, which reaches from its place up to, not at, the next one's.
-    // Refused where the place is beyond the furthest (7), the grade out of limits (9), where a section begins at the place (10), or no more fit (11).
-    pub fn slope(
-        &mut self,
-        lists: &mut Lists<'_>,
-        place: Distance,
-        grade: Grade,
-    ) -> Result<Phase, Refusal>
-        ensures made { Made M.BrakingModel.meaning (Slope place grade) (answer_of result) self.old self.new lists.old lists.new }
-        ensures phase { IfOk result (λ p. p ≡ self.new.phase) }
-        ensures targets { lists.new.targets ≡ lists.old.targets }
-        ensures law { Law M.BrakingModel.meaning (Slope place grade) (answer_of result) self.old self.new lists.old lists.new }
-    {
-        check_slope(place, grade)?;
-        lists.add_section(Placed { place, item: grade })?;
-        Ok(self.accept())
-    }
-
     // Adds a target by its number. It stands beyond the point by the distance, less the sheet's eps percent of it (`target_place`).
     // Refused where the point, the distance or their sum is beyond the furthest place (7), the speed above the model's top speed (8), the number taken (10), or no more fit (11).
     pub fn announce(
@@ -45,6 +27,7 @@ impl<M: BrakingModel> Mission<M> {
         ensures made { Made M.BrakingModel.meaning (Announce number point distance speed) (answer_of result) self.old self.new lists.old lists.new }
         ensures phase { IfOk result (λ p. p ≡ self.new.phase) }
         ensures sections { lists.new.sections ≡ lists.old.sections }
+        ensures ceilings { lists.new.ceilings ≡ lists.old.ceilings }
         ensures law { Law M.BrakingModel.meaning (Announce number point distance speed) (answer_of result) self.old self.new lists.old lists.new }
     {
         let place = self.announced_place(point, distance, speed)?;
@@ -58,21 +41,11 @@ impl<M: BrakingModel> Mission<M> {
         ensures made { Made M.BrakingModel.meaning (Withdraw number) (answer_of result) self.old self.new lists.old lists.new }
         ensures phase { IfOk result (λ p. p ≡ self.new.phase) }
         ensures sections { lists.new.sections ≡ lists.old.sections }
+        ensures ceilings { lists.new.ceilings ≡ lists.old.ceilings }
         ensures law { Law M.BrakingModel.meaning (Withdraw number) (answer_of result) self.old self.new lists.old lists.new }
     {
         lists.take_target(number)?;
         Ok(self.accept())
-    }
-
-    // Ends an accepted call that is no sample: the phase stays, and no release is due until a sample in zone 0.
-    pub(super) fn accept(&mut self) -> Phase
-        ensures value { result ≡ self.new.phase }
-        ensures phase { self.new.phase ≡ self.old.phase }
-        ensures clear { self.new.clear ≡ false }
-        ensures train { SameTrain self.old self.new }
-    {
-        self.clear = false;
-        self.phase
     }
 
     // Where an announced target stands, if it is within limits: places are asked before the speed.
@@ -87,9 +60,7 @@ impl<M: BrakingModel> Mission<M> {
         let place = target_place(point, distance, &self.sheet.values()).ok_or(
             Refusal::PlaceOutOfLimits,
         )?;
-        if speed > self.model.top_speed().speed {
-            return Err(Refusal::TooFast);
-        }
+        check_speed(speed, self.model.top_speed().speed)?;
         Ok(place)
     }
 }
