@@ -86,7 +86,9 @@ def cases():
 
 
 BRAKE = (900, 25, 1600)
-GRADES = {0: -4, 1_500_000: -12}
+# the train's length in mm, and the grade from each place on
+LENGTH = 200_000
+GRADES = {0: -4, 1_500_000: -12, 2_000_000: -4}
 # a yard begins behind the target: its place in mm, and its speed in tenths of km/h
 YARD, YARD_SPEED = 2_600_000, 150
 POINT, DISTANCE, ALLOWED = 200_000, 2_400_000, 300
@@ -100,8 +102,9 @@ CALLS = [
 
 
 def grade_ahead(front):
-    at = max(p for p in GRADES if p <= front)
-    return min(GRADES[p] for p in GRADES if p == at or front < p <= PLACE)
+    rear, end = max(0, front - LENGTH), max(front, PLACE)
+    at = max(p for p in GRADES if p <= rear)
+    return min(GRADES[p] for p in GRADES if p == at or rear < p <= end)
 
 
 def shown(number, zone, phase):

@@ -72,8 +72,10 @@ class Mission:
         return self.grades[max(begun)] if begun else -35
 
     def grade_ahead(self, front, place):
-        changes = [p for p in self.grades if front < p <= place]
-        return min(self.grade_at(p) for p in [front] + changes)
+        """The least grade from the rear of the train to the place, or to its front once the place is passed; the sheet's length is in m."""
+        rear = max(0, front - 1_000 * self.values["length"])
+        changes = [p for p in self.grades if rear < p <= max(front, place)]
+        return min(self.grade_at(p) for p in [rear] + changes)
 
     def target_zone(self, front, speed, place, allowed):
         if speed <= allowed:
@@ -210,10 +212,6 @@ def edges(values, place, speed, allowed, grade):
     return [sample(place - d - out, speed) for d in reversed(three) for out in (1, 0)]
 
 
-def control(values, speed, allowed, grade):
-    return steps(values, speed, allowed, grade)[4][0]
-
-
 def worked():
     yield A, [LEVEL, announce(1, 0, 1_000_000, 0), sample(212_036, 1_000), sample(212_037, 1_000), RELEASE, sample(212_040, 0), RELEASE]
 
@@ -283,7 +281,8 @@ def two_refusals():
 
 def full_lists():
     many = [slope(1_000 * n, n % 36 - 35) for n in range(SECTIONS)]
-    yield A, [*many, slope(64_000, 0), slope(500, 0), slope(63_000, 0), slope(64_000, 36), slope(0, 36), slope(MAX_PLACE + 1, 0), announce(1, 0, 1_000_000, 0), sample(0, 800), sample(70_000, 800), slope(500, 0)]
+    # the rear of a train of 7 m stands exactly on the last section
+    yield {**A, "length": 7}, [*many, slope(64_000, 0), slope(500, 0), slope(63_000, 0), slope(64_000, 36), slope(0, 36), slope(MAX_PLACE + 1, 0), announce(1, 0, 1_000_000, 0), sample(0, 800), sample(70_000, 800), slope(500, 0)]
     # the far end of a full list of sections, put in from the last to the first
     yield A, [*reversed(many), announce(1, 0, 2_000_000, 0), *edges(A, 2_000_000, 1_000, 0, -8)]
     targets = [announce(n, 0, 3_000_000 + n, n) for n in range(TARGETS)]
@@ -321,7 +320,7 @@ def stretches():
     place = 5_000_000
     for sections, front, grade in [
         ([(0, 0), (4_400_000, -21), (4_450_000, 10)], 3_800_000, -21),  # in the middle
-        ([(0, -21), (4_600_000, 5)], 3_800_000, -21),  # at the front
+        ([(0, -21), (4_600_000, 5)], 3_800_000, -21),  # under the train
         ([(0, 0), (place, -21)], 3_800_000, -21),  # exactly at the target
         ([(0, 0), (place + 1, -21)], 3_800_000, 0),  # just beyond it
         ([(4_950_000, 0)], 3_800_000, -35),  # before the first section
@@ -330,10 +329,55 @@ def stretches():
         ([(0, 35), (4_990_000, 1), (4_995_000, 2)], 3_800_000, 1),
     ]:
         yield A, [*[slope(*x) for x in sections], announce(1, 0, place, 300), sample(front, 1_000), *edges(A, place, 1_000, 300, grade)]
-    # the section begins exactly at the front, one mm before it, and one behind
-    d = control(A, 1_000, 0, 0)
-    for begin in (place - d, place - d - 1, place - d + 1):
-        yield A, [slope(0, -21), slope(begin, 0), announce(1, 0, place, 0), sample(place - d - 1, 1_000), STANDING, RELEASE, sample(place - d, 1_000), sample(place - d + 1, 1_000)]
+
+
+# From 100 km/h to a stop sheet A has on the level the distances 787,963, 843,519 and 926,853 mm, and on a fall of 21 the control distance 1,141,539 mm.
+# So at CLEAR before the target the zone is 0 on the level, and 3 where a fall of 21 or more counts.
+CLEAR = 926_854
+PLACE = 5_000_000
+FRONT = PLACE - CLEAR
+REAR = FRONT - 1_000 * A["length"]
+
+
+def at_fronts(*sections, fronts=(FRONT,), values=A, place=PLACE):
+    """A target to stop at, and a sample at 100 km/h at each place of the front, with a release after each."""
+    samples = [line for front in fronts for line in (sample(front, 1_000), RELEASE)]
+    return values, [*[slope(*x) for x in sections], announce(1, 0, place, 0), *samples]
+
+
+def slopes_under_the_train():
+    # the rear still on a fall; a crest between rear and front, beyond which it falls to the level that the cab has reached
+    yield at_fronts((0, -21), (4_000_000, 0))
+    yield at_fronts((0, 5), (3_800_000, -21), (3_900_000, 0))
+    # level from the rear on, from one mm short of it, and from one mm beyond it: the front one mm short of FRONT, and there
+    for begin in (REAR, REAR - 1, REAR + 1):
+        yield at_fronts((0, -21), (begin, 0), fronts=(FRONT - 1, FRONT))
+    # a fall of one mm that the rear stands on, and one that it has just left
+    for begin in (REAR, REAR - 1):
+        yield at_fronts((0, 0), (begin, -21), (begin + 1, 0))
+    # the rear one mm short of the first section, at it, and the first section between rear and front
+    for begin in (REAR + 1, REAR, 4_000_000):
+        yield at_fronts((begin, 0))
+    # the rear at place 0, one mm beyond it, and twice where it would be below 0
+    for front in (400_000, 400_001, 73_146, 0):
+        yield at_fronts((0, -21), (1, 0), fronts=(front,), place=front + CLEAR)
+    # below 0 is not before the first section
+    yield at_fronts((0, 0), fronts=(0, 73_146, 400_000), place=400_000 + CLEAR)
+    # a train of no length: the front alone
+    yield at_fronts((0, -21), (FRONT, 0), fronts=(FRONT - 1, FRONT), values={**A, "length": 0})
+    # the longest one
+    yield at_fronts((0, -21), (FRONT - 1_000_000, 0), fronts=(FRONT - 1, FRONT), values={**A, "length": 1_000})
+    # the ceiling is the one at the front, whichever the rear is under
+    values, lines = at_fronts((0, 0))
+    yield values, [ceiling(0, 899), ceiling(FRONT, 2_600), *lines]
+    yield values, [ceiling(0, 2_600), ceiling(FRONT, 899), *lines]
+    # it is the sheet's length, by whichever length the time of the pipe goes
+    for words in ["scmt P M M 0 100 1000 LT 100 20 30 0", "scmt E M M 0 100 250 LD 100 20 30 0", "scmt E V V 0 100 777 LT 100 20 30 0", "etcs P M V 1 100 400 LD 100 20 30 0", "etcs E V V 0 100 1 LT 100 20 30 0"]:
+        s = sheet(words)
+        foot = 7_000_000
+        front = foot + 1_000 * s["length"]
+        place = front + steps(s, 1_000, 0, 0)[4][2] + 1
+        yield at_fronts((0, -21), (foot, 0), fronts=(front - 1, front), values=s, place=place)
 
 
 def speeds():
@@ -521,7 +565,7 @@ def longest_texts():
 
 
 GROUPS = [
-    worked, no_calls, bad_sheets, reading_faults, refusals, two_refusals, full_lists, several_targets, own_speed, passed_targets, stretches, speeds, releases,
+    worked, no_calls, bad_sheets, reading_faults, refusals, two_refusals, full_lists, several_targets, own_speed, passed_targets, stretches, slopes_under_the_train, speeds, releases,
     cuts, equal_places, numbers_again, weak_questions, phases, sections_in_any_order, sheets, above_a_ceiling, lifted_ceilings, ceilings_refused, full_ceilings,
     ceilings_and_targets, ceilings_and_releases, last_line_unended, ends_without_a_feed, longest_texts,
 ]
@@ -595,6 +639,25 @@ def check_ceilings_and_targets():
     check_run(further_on, [*[(0, free, "-")] * 3, (0, free, 0), (0, free, 1)])
 
 
+def check_slopes_under_the_train():
+    free, _, on = PHASES
+    clear = [(0, free, 0), (12, free, "-")]
+    braked = [(0, on, 3), (12, on, "-")]
+    let_go = [(0, on, 0), (0, free, "-")]
+    want = [
+        braked, braked,  # a fall under the rear, and a crest
+        [*braked, *let_go], [*clear, *clear], [*braked, *braked],  # from the rear on, from short of it, from beyond it
+        braked, clear,  # a fall of one mm
+        braked, clear, braked,  # the first section
+        braked, clear, braked, braked, [*clear, *clear, *clear],  # place 0
+        [*braked, *let_go], [*braked, *let_go],  # lengths
+        clear, braked,  # ceilings
+        *[[*braked, *let_go]] * 5,  # the sheet's length
+    ]
+    for (values, lines), answered in zip(slopes_under_the_train(), want, strict=True):
+        check_run((values, lines), [(0, free, "-")] * (len(lines) - len(answered)) + answered)
+
+
 def lines_of(printed):
     return "".join(line + "\n" for line in printed).encode()
 
@@ -606,6 +669,7 @@ def cases():
     check_ceilings()
     check_full_ceilings()
     check_ceilings_and_targets()
+    check_slopes_under_the_train()
     with open(os.path.join(folder, "stdin"), "wb") as file:
         file.writelines(text + END for text in texts())
     with open(os.path.join(folder, "stdout"), "wb") as file:

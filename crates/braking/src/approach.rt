@@ -48,7 +48,7 @@ impl Approach {
         self.target_speed
     }
 
-    // The least grade between train and target.
+    // The least grade from the rear of the train to the target, or to its front once the target is passed.
     pub fn grade(self) -> Grade
         ensures value { result.thousandths ≡ self.grade }
         ensures not_below { STEEPEST_FALL.thousandths ≤ℤ self.grade }

@@ -1,6 +1,5 @@
 -- The worked runs, that their meaning is lawful, and histories that the lines rule out.
-use Rattle.std.proofs.Common.{◌≡◌, ℕ, ◌<◌, ◌≤◌, true, false, leb, List, [], ◌∷◌, ◌++◌, pos, None, Ok, sym, refl, ap, ◌∙◌, append_assoc, subst, inl, inr, arith, lit<, lit≤}
-use Rattle.std.proofs.lemmas.Bool.{le-leb}
+use Rattle.std.proofs.Common.{◌≡◌, ℕ, ◌<◌, ◌≤◌, true, false, List, [], ◌∷◌, ◌++◌, pos, negsuc, None, Ok, sym, refl, ap, ◌∙◌, append_assoc, subst, inl, inr, arith, lit<, lit≤}
 use Rattle.place_list.specs.Membership.{In}
 use Rattle.braking.specs.Laws.{Lawful}
 use Rattle.braking.specs.Meaning.{Question, Binds}
@@ -9,15 +8,14 @@ use Rattle.calls.specs.declared.record.Record.{Record}
 use Rattle.history.specs.History.{History, SpeedCeiling, Target, Bound, CeilingHolds, ceiling_from, lift, slope, announce, withdraw, sample, release}
 use Rattle.history.specs.Lines.{FarAbove, KeepsTheLines, Lines, OnAfter, Reason, MayBrake, MayRelease, LastSampleJustifies}
 use Rattle.history.specs.State.{empty_track, full_capacity, State, empty, start}
-use Rattle.history.specs.Zones.{question}
 use Rattle.history.proofs.Tracked.{Tracks}
 use Rattle.history.proofs.Splits.{last_push, split_push}
 use Rattle.history.proofs.Tracks.{tracks_start, tracks_step, tracks_sampled, ahead_is, same_front, same_speed}
-use Rattle.history.proofs.Steps.{asks}
-use Rattle.history.specs.Examples.{sheet, tenfold, Worked, accepted_entry, one_ceiling, one_target, RuledOut}
+use Rattle.history.proofs.Steps.{asked_at, asks}
+use Rattle.history.specs.Examples.{sheet, tenfold, Worked, accepted_entry, one_ceiling, one_target, past_a_fall, RuledOut}
 
 pub worked : Worked
-worked = record { numbers = refl; phases = refl; ceiling_numbers = refl; ceiling_phases = refl }
+worked = record { numbers = refl; phases = refl; ceiling_numbers = refl; ceiling_phases = refl; crest_numbers = refl; crest_phases = refl }
 
 pub tenfold_lawful : Lawful tenfold
 tenfold_lawful = grind arith
@@ -79,35 +77,32 @@ tracked = tracks_step sheet tenfold (accepted_entry (slope 0 (pos 4)) Free ∷ [
 abbrev goal : Target
 goal = record { number = 7; place = 990; speed = 5 }
 
--- Where it is listed and binds.
-bound : (h : History) (s : State) (p : ℕ) → Tracks sheet h s → In goal s.track.targets.items → Binds tenfold (question s.track.sections.items p 20 goal) →
-    Bound sheet tenfold h p 20 goal (question s.track.sections.items p 20 goal)
-bound h s p k i b = record { stands = k.targets.stands goal i; asks_speed = refl; asks_target = refl; asks_grade = ahead_is sheet h s k p 990; binds = b }
+-- A target that is listed and binds.
+bound : (h : History) (s : State) (p : ℕ) (t : Target) → Tracks sheet h s → In t s.track.targets.items → Binds tenfold (asked_at sheet s p 20 t) → Bound sheet tenfold h p 20 t (asked_at sheet s p 20 t)
+bound h s p t k i b = record { stands = k.targets.stands t i; asks_speed = refl; asks_target = refl; asks_grade = ahead_is sheet h s k p t.place; binds = b }
 
-near : Bound sheet tenfold one_target 790 20 goal (question made.track.sections.items 790 20 goal)
-near = bound one_target made 790 tracked (inl refl) refl
+near : Bound sheet tenfold one_target 790 20 goal (asked_at sheet made 790 20 goal)
+near = bound one_target made 790 goal tracked (inl refl) refl
 
 never : (h : History) → false ≡ true → LastSampleJustifies sheet tenfold h
 never h e = grind arith
 
--- As far from the target as the margin keeps the brake off, or further.
-far : (p : ℕ) (t : Target) (q : Question) → Bound sheet tenfold one_target p 20 t q → MayBrake (tenfold.verdict q) p t.place → p ≤ 699 → ⊥
-far p t q b may away =
-    let e : q ≡ question made.track.sections.items p 20 t = asks sheet tenfold tenfold_lawful one_target made tracked (never one_target) p 20 t q b in
-    let may' : MayBrake (tenfold.verdict (question made.track.sections.items p 20 t)) p t.place = subst (λ (q : Question). MayBrake (tenfold.verdict q) p t.place) e may in
-    elim (tracked.targets.listed t b.stands) [
-      | inl same ↦
-          let may'' : MayBrake (tenfold.verdict (question made.track.sections.items p 20 goal)) p 990 = subst (λ (t : Target). MayBrake (tenfold.verdict (question made.track.sections.items p 20 t)) p t.place) same may' in
-          let begun : leb 0 p ≡ true = le-leb 0 p (omega arith) in
-          let flat = rw begun at may'' in
-          omega (arith, flat)
+-- Where one target is listed and no ceiling, the reason is that target.
+only_that : (h : History) (s : State) (p : ℕ) (g : Target) → Tracks sheet h s → s.clear ≡ false → s.track.targets.items ≡ g ∷ [] → s.track.ceilings.items ≡ [] →
+    Reason sheet tenfold h p 20 → MayBrake (tenfold.verdict (asked_at sheet s p 20 g)) p g.place
+only_that h s p g k barred one free (inl fast) = grind arith
+only_that h s p g k barred one free (inr (inl w)) =
+    let e = asks sheet tenfold tenfold_lawful h s k (λ c. never h (sym barred ∙ c)) p 20 w.1.0 w.1.1 w.1.2 in
+    let may : MayBrake (tenfold.verdict (asked_at sheet s p 20 w.1.0)) p w.1.0.place = subst (λ (q : Question). MayBrake (tenfold.verdict q) p w.1.0.place) e w.1.3 in
+    elim (rw one at (k.targets.listed w.1.0 w.1.2.stands)) [
+      | inl same ↦ subst (λ (t : Target). MayBrake (tenfold.verdict (asked_at sheet s p 20 t)) p t.place) same may
       | inr none ↦ absurd none
     ]
+only_that h s p g k barred one free (inr (inr w)) = absurd (rw free at (k.ceilings.listed w.0 w.1.stands))
 
-early : (p : ℕ) → p ≤ 699 → Reason sheet tenfold one_target p 20 → ⊥
-early p away (inl fast) = grind arith
-early p away (inr (inl w)) = far p w.1.0 w.1.1 w.1.2 w.1.3 away
-early p away (inr (inr w)) = tracked.ceilings.listed w.0 w.1.stands
+-- As far from the target as the margin keeps the brake off.
+early : Reason sheet tenfold one_target 699 20 → ⊥
+early r = let may : MayBrake (tenfold.verdict (asked_at sheet made 699 20 goal)) 699 990 = only_that one_target made 699 goal tracked refl refl refl r in omega (arith, may)
 
 -- 250 before the target, after the brake came on.
 abbrev braked : History
@@ -122,7 +117,7 @@ braked_tracked = tracks_sampled sheet one_target made tracked 790 20 Emergency (
 
 yet : Justified braked 740 20 → ⊥
 yet w =
-    let short : MayRelease (tenfold.verdict (question made.track.sections.items 740 20 goal)) 740 990 = w.1 goal _ (bound braked braking 740 braked_tracked (inl refl) refl) in
+    let short : MayRelease (tenfold.verdict (asked_at sheet made 740 20 goal)) 740 990 = w.1 goal _ (bound braked braking 740 goal braked_tracked (inl refl) refl) in
     omega (arith, short)
 
 -- A target with no section known.
@@ -135,8 +130,35 @@ alone = record { track = record { sections = empty 64; targets = made.track.targ
 lone_tracked : Tracks sheet lone alone
 lone_tracked = tracks_step sheet tenfold [] opened (tracks_start sheet full_capacity) (announce 7 905 95 5)
 
-steep : Bound sheet tenfold lone 0 20 goal (question [] 0 20 goal)
-steep = bound lone alone 0 lone_tracked (inl refl) refl
+steep : Bound sheet tenfold lone 0 20 goal (asked_at sheet alone 0 20 goal)
+steep = bound lone alone 0 goal lone_tracked (inl refl) refl
+
+-- A target beyond a fall: the state after it.
+abbrev beyond : Target
+beyond = record { number = 7; place = 2000; speed = 5 }
+
+abbrev sloping : State
+sloping = record {
+  track = record {
+    sections = record { items = record { place = 0; grade = negsuc 0 } ∷ record { place = 500; grade = pos 0 } ∷ []; room = 62 };
+    targets = record { items = beyond ∷ []; room = 31 };
+    ceilings = empty 48;
+  };
+  phase = Free;
+  clear = false;
+}
+
+sloping_tracked : Tracks sheet past_a_fall sloping
+sloping_tracked = tracks_step sheet tenfold (accepted_entry (slope 0 (negsuc 0)) Free ∷ accepted_entry (slope 500 (pos 0)) Free ∷ []) _
+    (tracks_step sheet tenfold (accepted_entry (slope 0 (negsuc 0)) Free ∷ []) _
+    (tracks_step sheet tenfold [] opened (tracks_start sheet full_capacity) (slope 0 (negsuc 0))) (slope 500 (pos 0))) (announce 7 2000 0 5)
+
+-- With the rear on the fall the target is weak, with the rear at its foot there is room.
+rear_on_it : Bound sheet tenfold past_a_fall 1499 20 beyond (asked_at sheet sloping 1499 20 beyond)
+rear_on_it = bound past_a_fall sloping 1499 beyond sloping_tracked (inl refl) refl
+
+left_behind : Reason sheet tenfold past_a_fall 1500 20 → ⊥
+left_behind r = let may : MayBrake (tenfold.verdict (asked_at sheet sloping 1500 20 beyond)) 1500 2000 = only_that past_a_fall sloping 1500 beyond sloping_tracked refl refl refl r in omega (arith, may)
 
 -- No target left.
 abbrev ended : History
@@ -192,12 +214,15 @@ ruled_out = record {
   too_near = λ k. let l : Lines sheet tenfold one_target (accepted_entry (sample 790 20) Warning) = k one_target _ [] refl in
       warned (l.in_time.too_near 790 20 (refl, tt) (lit≤ tt) goal _ near (lit≤ tt));
   for_nothing = λ k. no_reason [] opened 0 500 (tracks_start sheet full_capacity) refl refl (lit≤ tt) (reason [] 0 500 off k);
-  too_early = λ k. early 699 (lit≤ tt) (reason one_target 699 20 off k);
+  too_early = λ k. early (reason one_target 699 20 off k);
   unasked = λ k. let l : Lines sheet tenfold (accepted_entry (sample 0 501) Emergency ∷ []) (accepted_entry (sample 0 20) Free) = k (_ ∷ []) _ [] refl in
       grind arith;
   too_soon = λ k. let w = justified [] 0 501 k in omega (arith, w.0);
   not_yet = λ k. yet (justified braked 740 20 k);
   unknown_grade = λ k. let l : Lines sheet tenfold lone (accepted_entry (sample 0 20) Free) = k lone _ [] refl in off (l.in_time.too_near 0 20 (refl, tt) (lit≤ tt) goal _ steep tt);
+  under_the_rear = λ k. let l : Lines sheet tenfold past_a_fall (accepted_entry (sample 1499 20) Free) = k past_a_fall _ [] refl in
+      off (l.in_time.too_near 1499 20 (refl, tt) (lit≤ tt) beyond _ rear_on_it tt);
+  behind_the_rear = λ k. left_behind (reason past_a_fall 1500 20 off k);
   withdrawn = λ k. no_reason ended sloped 790 20 ended_tracked refl refl (lit≤ tt) (reason ended 790 20 off k);
   far_above = λ k. let l : Lines sheet tenfold one_ceiling (accepted_entry (sample 100 131) Warning) = k one_ceiling _ [] refl in
       warned (l.in_time.too_far_above 100 131 (refl, tt) the_ceiling (holds one_ceiling under under_tracked refl) (lit< tt));

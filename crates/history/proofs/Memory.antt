@@ -65,12 +65,12 @@ module _ (sheet : Values) (m : Meaning) (h : History) (s : State) (remembered : 
 
   sampled : (p : Distance) (v : Speed) → Remembers h (Sample p v) (does sheet m s (Sample p v))
   sampled p v =
-      let z : Zone = zone m s.track p.millimetres v.tenths in
+      let z : Zone = zone sheet m s.track p.millimetres v.tenths in
       let e : Record = entry_of (Sample p v) (does sheet m s (Sample p v)) in
       record {
         remembered = λ w.
-            let same : Ok (Some (zone m s.track p.millimetres v.tenths)) ≡ Ok (Some Clear) = new_answer h e tt w in
-            let clear : zone m s.track p.millimetres v.tenths ≡ Clear = cc in
+            let same : Ok (Some (zone sheet m s.track p.millimetres v.tenths)) ≡ Ok (Some Clear) = new_answer h e tt w in
+            let clear : zone sheet m s.track p.millimetres v.tenths ≡ Clear = cc in
             ap is_clear clear;
         answered = λ clear. record { before = h; entry = e; last = last_new h e; front = p.millimetres; speed = v.tenths; sampled = refl; answered = ap (λ (x : Zone). Ok (Some x)) (clear_is z clear) };
       }

@@ -40,7 +40,7 @@ tracks_of sheet m h s v a = record {
   valid = v;
 }
 
-one_grade_there : (sheet : Values) (h : History) (s : State) → Tracks sheet h s → HasOneGrade h
+one_grade_there : (sheet : Values) (h : History) (s : State) → Tracks sheet h s → HasOneGrade sheet h
 one_grade_there sheet h s k front place = (_, ahead_is sheet h s k front place, λ g a. ahead_one sheet h s k front place g a)
 
 pub start_agrees : TheStartAgrees
@@ -105,7 +105,7 @@ module _ (sheet : Values) (m : Meaning) (Holds : History → Type 0) (tracked : 
       subst (λ (x : Record). Holds (h ++ x ∷ bs)) first (subst Holds (append_assoc h (entry_of c (step sheet m s c) ∷ []) bs) goes)
 
 pub one_grade : EveryStretchHasOneGrade
-one_grade sheet m capacity calls = at_each sheet m HasOneGrade (one_grade_there sheet) calls [] (start (empty_track capacity)) (tracks_start sheet capacity)
+one_grade sheet m capacity calls = at_each sheet m (HasOneGrade sheet) (one_grade_there sheet) calls [] (start (empty_track capacity)) (tracks_start sheet capacity)
 
 pub one_ceiling : EveryPlaceHasOneCeilingAtMost
 one_ceiling sheet m capacity calls = at_each sheet m HasOneCeilingAtMost (one_ceiling_there sheet) calls [] (start (empty_track capacity)) (tracks_start sheet capacity)

@@ -1,5 +1,5 @@
 -- Each step keeps the three lines, and what clear says.
-use Rattle.std.proofs.Common.{◌≡◌, ℕ, ◌<◌, ◌≤◌, Bool, true, false, not, [], ◌∷◌, ◌++◌, ℤ, Some, None, Err, sym, refl, ap, ◌∙◌, subst, inl, inr, arith}
+use Rattle.std.proofs.Common.{◌≡◌, ℕ, ◌<◌, ◌≤◌, max, Bool, true, false, not, [], ◌∷◌, ◌++◌, ℤ, Some, None, Err, sym, refl, ap, ◌∙◌, subst, inl, inr, arith}
 use Rattle.std.proofs.lemmas.Bool.{cases_lt, ltb-true}
 use Rattle.units.specs.declared.quantities.Distance.{Distance}
 use Rattle.units.specs.declared.quantities.Speed.{Speed}
@@ -15,7 +15,7 @@ use Rattle.calls.specs.declared.zone.Zone.{Zone}
 use Rattle.calls.specs.Zones.{max_zone}
 use Rattle.calls.specs.declared.zone.Zone.TheVariants as zones
 use Rattle.sheet.specs.declared.values.Values.{Values}
-use Rattle.history.specs.History.{History, SpeedCeiling, Target, Accepts, Bound, CeilingHolds, steepest, sample}
+use Rattle.history.specs.History.{History, SpeedCeiling, Target, Accepts, Bound, CeilingHolds, rear_of, sample}
 use Rattle.history.specs.Lines.{FarAbove, Lines, LastSampleJustifies, Reason, MustBrake, MayRelease, On}
 use Rattle.history.specs.State.{State, is_unfit}
 use Rattle.history.specs.Zones.{ceiling_zone, question, target_zone, largest_zone, zone_of, zone}
@@ -37,6 +37,10 @@ same_question v v' w w' g g' a b c = grind arith
 -- A binding question with a fit grade can be asked.
 fit_asked : (m : Meaning) (v w : ℕ) (g : ℤ) → v ≤ m.top → Binds m (asking v w g) → is_unfit g ≡ false → Asked m.top (asking v w g)
 fit_asked m v w g l b f = let lower : w < v = ltb-true w v b in grind arith
+
+-- The question of a target at a sample, by the state's sections.
+abbrev pub asked_at : (sheet : Values) → State → (front v : ℕ) → Target → Question
+asked_at sheet s front v t = question s.track.sections.items (rear_of sheet front) front v t
 
 -- What is known of clear in the state that an entry leaves.
 abbrev pub Known : (sheet : Values) → Meaning → History → State → Type 0
@@ -71,61 +75,61 @@ module _ (sheet : Values) (m : Meaning) (law : Lawful m) (h : History) (s : Stat
       )
 
   -- the question of a binding target is the computed one
-  pub asks : (front v : ℕ) (t : Target) (q : Question) → Bound sheet m h front v t q → q ≡ question s.track.sections.items front v t
+  pub asks : (front v : ℕ) (t : Target) (q : Question) → Bound sheet m h front v t q → q ≡ asked_at sheet s front v t
   asks front v t q b = same_question q.speed v q.target_speed t.speed q.grade _ b.asks_speed b.asks_target (ahead_one sheet h s k front t.place q.grade b.asks_grade)
 
-  fit : (front v : ℕ) (t : Target) → is_unfit (question s.track.sections.items front v t).grade ≡ false
-  fit front v t = least_fit steepest front t.place s.track.sections.items refl (valid_fit s.track.sections.items k.valid.sections)
+  fit : (front v : ℕ) (t : Target) → is_unfit (asked_at sheet s front v t).grade ≡ false
+  fit front v t = least_fit s.track.sections.items (rear_of sheet front) (max front t.place) (valid_fit s.track.sections.items k.valid.sections)
 
-  sound : (front v : ℕ) (t : Target) → Binds m (question s.track.sections.items front v t) → v ≤ m.top → Sound (m.verdict (question s.track.sections.items front v t))
-  sound front v t b l = law.sound (question s.track.sections.items front v t) (fit_asked m v t.speed _ l b (fit front v t)) b
+  sound : (front v : ℕ) (t : Target) → Binds m (asked_at sheet s front v t) → v ≤ m.top → Sound (m.verdict (asked_at sheet s front v t))
+  sound front v t b l = law.sound (asked_at sheet s front v t) (fit_asked m v t.speed _ l b (fit front v t)) b
 
-  zone_is : (front v : ℕ) (t : Target) → Binds m (question s.track.sections.items front v t) → target_zone m s.track.sections.items front v t ≡ zone_of (m.verdict (question s.track.sections.items front v t)) front t.place
-  zone_is front v t b = binding_zone m s.track.sections.items front v t b
+  zone_is : (front v : ℕ) (t : Target) → Binds m (asked_at sheet s front v t) → target_zone m s.track.sections.items (rear_of sheet front) front v t ≡ zone_of (m.verdict (asked_at sheet s front v t)) front t.place
+  zone_is front v t b = binding_zone m s.track.sections.items (rear_of sheet front) front v t b
 
-  binding : (front v : ℕ) (t : Target) (q : Question) → Bound sheet m h front v t q → Binds m (question s.track.sections.items front v t)
+  binding : (front v : ℕ) (t : Target) (q : Question) → Bound sheet m h front v t q → Binds m (asked_at sheet s front v t)
   binding front v t q b = subst (Binds m) (asks front v t q b) b.binds
 
-  too_fast_zone : (front v : ℕ) → m.top < v → zone m s.track front v ≡ zones.Control
+  too_fast_zone : (front v : ℕ) → m.top < v → zone sheet m s.track front v ≡ zones.Control
   too_fast_zone front v l = grind arith
 
   -- the largest of the targets, and that of the ceiling
   abbrev targets_zone : (front v : ℕ) → Zone
-  targets_zone front v = largest_zone m s.track.sections.items front v s.track.targets.items
+  targets_zone front v = largest_zone m s.track.sections.items (rear_of sheet front) front v s.track.targets.items
 
   abbrev under_zone : (front v : ℕ) → Zone
   under_zone front v = ceiling_zone s.track.ceilings.items front v
 
-  slow_zone : (front v : ℕ) → v ≤ m.top → zone m s.track front v ≡ max_zone (targets_zone front v) (under_zone front v)
+  slow_zone : (front v : ℕ) → v ≤ m.top → zone sheet m s.track front v ≡ max_zone (targets_zone front v) (under_zone front v)
   slow_zone front v l = grind arith
 
-  near_zone : (front v : ℕ) → v ≤ m.top → (t : Target) (q : Question) → Bound sheet m h front v t q → MustBrake (m.verdict q) front t.place → zone m s.track front v ≡ zones.Control
+  near_zone : (front v : ℕ) → v ≤ m.top → (t : Target) (q : Question) → Bound sheet m h front v t q → MustBrake (m.verdict q) front t.place → zone sheet m s.track front v ≡ zones.Control
   near_zone front v l t q b must =
       let slow = binding front v t q b in
-      let must' : MustBrake (m.verdict (question s.track.sections.items front v t)) front t.place = subst (λ (q : Question). MustBrake (m.verdict q) front t.place) (asks front v t q b) must in
-      let three : target_zone m s.track.sections.items front v t ≡ zones.Control = zone_is front v t slow ∙ must_control _ front t.place (sound front v t slow l) must' in
-      slow_zone front v l ∙ first_control (targets_zone front v) (under_zone front v) (one_control m s.track.sections.items front v s.track.targets.items t (k.targets.listed t b.stands) three)
+      let must' : MustBrake (m.verdict (asked_at sheet s front v t)) front t.place = subst (λ (q : Question). MustBrake (m.verdict q) front t.place) (asks front v t q b) must in
+      let three : target_zone m s.track.sections.items (rear_of sheet front) front v t ≡ zones.Control = zone_is front v t slow ∙ must_control _ front t.place (sound front v t slow l) must' in
+      slow_zone front v l ∙ first_control (targets_zone front v) (under_zone front v) (one_control m s.track.sections.items (rear_of sheet front) front v s.track.targets.items t (k.targets.listed t b.stands) three)
 
-  far_zone : (front v : ℕ) (c : SpeedCeiling) → CeilingHolds h front c → FarAbove v c → zone m s.track front v ≡ zones.Control
+  far_zone : (front v : ℕ) (c : SpeedCeiling) → CeilingHolds h front c → FarAbove v c → zone sheet m s.track front v ≡ zones.Control
   far_zone front v c holds far =
       elim (cases_lt m.top v) [
         | inl fast ↦ too_fast_zone front v fast
         | inr slow ↦ slow_zone front v slow ∙ second_control (targets_zone front v) (under_zone front v) (far_control _ c v (ceiling_is sheet h s k front c holds) far)
       ]
 
-  reason : (front v : ℕ) → zone m s.track front v ≡ zones.Control → Reason sheet m h front v
+  reason : (front v : ℕ) → zone sheet m s.track front v ≡ zones.Control → Reason sheet m h front v
   reason front v three =
       elim (cases_lt m.top v) [
         | inl fast ↦ inl fast
         | inr slow ↦
             elim (either_control (targets_zone front v) (under_zone front v) (sym (slow_zone front v slow) ∙ three)) [
               | inl near ↦
-                  let w = some_control m s.track.sections.items front v s.track.targets.items near in
+                  let w = some_control m s.track.sections.items (rear_of sheet front) front v s.track.targets.items near in
                   inr (inl (
                     slow,
                     (
                       w.0,
-                      question s.track.sections.items front v w.0,
+                      asked_at sheet s front v w.0,
                       record { stands = k.targets.stands w.0 w.1; asks_speed = refl; asks_target = refl; asks_grade = ahead_is sheet h s k front w.0.place; binds = w.2 },
                       control_may _ front w.0.place (sound front v w.0 w.2 slow) (sym (zone_is front v w.0 w.2) ∙ w.3),
                     ),
@@ -137,20 +141,20 @@ module _ (sheet : Values) (m : Meaning) (law : Lawful m) (h : History) (s : Stat
             ]
       ]
 
-  clear_there : (front v : ℕ) → zone m s.track front v ≡ zones.Clear → v ≤ m.top → (t : Target) (q : Question) → Bound sheet m h front v t q → MayRelease (m.verdict q) front t.place
+  clear_there : (front v : ℕ) → zone sheet m s.track front v ≡ zones.Clear → v ≤ m.top → (t : Target) (q : Question) → Bound sheet m h front v t q → MayRelease (m.verdict q) front t.place
   clear_there front v none l t q b =
       let slow = binding front v t q b in
-      let mine : target_zone m s.track.sections.items front v t ≡ zones.Clear = all_clear m s.track.sections.items front v s.track.targets.items t (k.targets.listed t b.stands) (both_clear (targets_zone front v) (under_zone front v) (sym (slow_zone front v l) ∙ none)).0 in
+      let mine : target_zone m s.track.sections.items (rear_of sheet front) front v t ≡ zones.Clear = all_clear m s.track.sections.items (rear_of sheet front) front v s.track.targets.items t (k.targets.listed t b.stands) (both_clear (targets_zone front v) (under_zone front v) (sym (slow_zone front v l) ∙ none)).0 in
       subst (λ (q : Question). MayRelease (m.verdict q) front t.place) (sym (asks front v t q b)) (clear_may_release _ front t.place (sound front v t slow l) (sym (zone_is front v t slow) ∙ mine))
 
-  under_there : (front v : ℕ) → zone m s.track front v ≡ zones.Clear → v ≤ m.top → (c : SpeedCeiling) → CeilingHolds h front c → v ≤ c.speed
+  under_there : (front v : ℕ) → zone sheet m s.track front v ≡ zones.Clear → v ≤ m.top → (c : SpeedCeiling) → CeilingHolds h front c → v ≤ c.speed
   under_there front v none l c holds =
       clear_under _ c.speed v (ceiling_is sheet h s k front c holds) (both_clear (targets_zone front v) (under_zone front v) (sym (slow_zone front v l) ∙ none)).1
 
   good_sample : (p : Distance) (w : Speed) → Good sheet m h (Sample p w) (does sheet m s (Sample p w))
   good_sample p w =
       let e : Record = entry_of (Sample p w) (does sheet m s (Sample p w)) in
-      let on : zone m s.track p.millimetres w.tenths ≡ zones.Control → On e = next_control s.phase (zone m s.track p.millimetres w.tenths) in (
+      let on : zone sheet m s.track p.millimetres w.tenths ≡ zones.Control → On e = next_control s.phase (zone sheet m s.track p.millimetres w.tenths) in (
         record {
           in_time = record {
             too_fast = λ front' v' a l. on (too_fast_zone p.millimetres w.tenths (omega (arith, same_speed p w front' v' a.0)));
@@ -165,11 +169,11 @@ module _ (sheet : Values) (m : Meaning) (law : Lawful m) (h : History) (s : Stat
                 let ef : front' ≡ p.millimetres = same_front p w front' v' a.0 in
                 on (far_zone p.millimetres w.tenths c (subst (λ (x : ℕ). CeilingHolds h x c) ef holds) (subst (λ (x : ℕ). FarAbove x c) ev far));
           };
-          for_a_reason = λ off came. (p.millimetres, w.tenths, (refl, tt), reason p.millimetres w.tenths (next_came s.phase (zone m s.track p.millimetres w.tenths) (λ y. off (k.phase ∙ y)) came));
-          when_justified = λ was off. absurd (off (ap (λ (y : Phase). next_phase y (zone m s.track p.millimetres w.tenths)) (sym k.phase ∙ was)));
+          for_a_reason = λ off came. (p.millimetres, w.tenths, (refl, tt), reason p.millimetres w.tenths (next_came s.phase (zone sheet m s.track p.millimetres w.tenths) (λ y. off (k.phase ∙ y)) came));
+          when_justified = λ was off. absurd (off (ap (λ (y : Phase). next_phase y (zone sheet m s.track p.millimetres w.tenths)) (sym k.phase ∙ was)));
         },
         λ clear.
-            let none : zone m s.track p.millimetres w.tenths ≡ zones.Clear = clear_is _ clear in
+            let none : zone sheet m s.track p.millimetres w.tenths ≡ zones.Clear = clear_is _ clear in
             let slow : w.tenths ≤ m.top = grind arith in
             record { before = h; entry = e; last = last_new h e; front = p.millimetres; speed = w.tenths; sampled = (refl, tt); not_too_fast = slow; all_let_go = clear_there p.millimetres w.tenths none slow; not_above = under_there p.millimetres w.tenths none slow },
       )

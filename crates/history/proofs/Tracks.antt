@@ -1,7 +1,6 @@
 -- The state holds what stands by the history: a relation that each step keeps.
-use Rattle.std.proofs.Common.{◌≡◌, ℕ, true, false, Bool, [], ◌∷◌, ◌++◌, ℤ, ◌≤ℤ◌, Some, None, Err, Option, sym, refl, ap, ◌∙◌, subst, inl, inr, arith}
+use Rattle.std.proofs.Common.{◌≡◌, ℕ, ◌≤◌, max, true, false, Bool, [], ◌∷◌, ◌++◌, ℤ, ◌≤ℤ◌, Some, None, Err, Option, sym, refl, ap, ◌∙◌, subst, inl, inr, arith}
 use Rattle.std.proofs.lemmas.Int.{ints}
-use Rattle.std.proofs.lemmas.Bool.{cases_lt}
 use Rattle.units.specs.declared.quantities.Distance.{Distance}
 use Rattle.units.specs.declared.quantities.Grade.{Grade}
 use Rattle.units.specs.declared.quantities.Speed.{Speed}
@@ -15,10 +14,10 @@ use Rattle.calls.specs.declared.record.Record.{Record}
 use Rattle.calls.specs.declared.refusal.Refusal.{Refusal}
 use Rattle.sheet.specs.declared.values.Values.{Values}
 use Rattle.history.specs.Agrees.{ListedExactly}
-use Rattle.history.specs.History.{History, Section, SpeedCeiling, Target, Adds, Announces, CeilingHolds, CeilingStands, GradeAt, GradeAhead, SectionStands, TargetStands, WasAccepted, ceiling_from, lift, target_place, steepest, slope, announce, withdraw, sample}
+use Rattle.history.specs.History.{History, Section, SpeedCeiling, Target, Adds, Announces, CeilingHolds, CeilingStands, GradeAt, GradeAhead, GradeOfStretch, SectionStands, TargetStands, WasAccepted, ceiling_from, lift, rear_of, target_place, steepest, slope, announce, withdraw, sample}
 use Rattle.history.specs.Lines.{HasOneCeilingAtMost}
 use Rattle.history.specs.State.{Capacity, empty_track, State, Valid, start}
-use Rattle.history.specs.Zones.{ceiling_speed_at, least_grade}
+use Rattle.history.specs.Zones.{ceiling_speed_at, grade_at, least_grade}
 use Rattle.history.specs.Step.{step, does, decide, first, grounds}
 use Rattle.history.specs.Runs.{entry_of}
 use Rattle.history.proofs.Begun.{held_is, held_one, one_last}
@@ -26,7 +25,7 @@ use Rattle.history.proofs.Exact.{exactly_added, exactly_same, exactly_taken, hol
 use Rattle.history.proofs.Tracked.{Ascends, Tracks, ceiling_place, further_ascends, section_place, target_number, target_place_of, valid_ascends, valid_distinct}
 use Rattle.history.proofs.Validity.{done_valid}
 use Rattle.history.proofs.Splits.{last_push, accepted_none, not_true, stands_none}
-use Rattle.history.proofs.Grades.{grade_in, GradeIn, grade_in_is, grade_in_one, least_below, least_reached, least_passed}
+use Rattle.history.proofs.Grades.{GradeIn, grade_at_is, grade_at_one, least_below, least_reached}
 use Rattle.history.proofs.Lists.{ascends_distinct}
 
 pub tracks_start : (sheet : Values) (capacity : Capacity) → Tracks sheet [] (start (empty_track capacity))
@@ -50,43 +49,47 @@ module _ (sheet : Values) (h : History) (s : State) (k : Tracks sheet h s) where
   ceilings_ascending : Ascends ceiling_place s.track.ceilings.items
   ceilings_ascending = further_ascends ceiling_place s.track.ceilings.items k.valid.ceilings
 
-  to_list : (p : ℕ) (g : ℤ) → GradeAt h p g → GradeIn steepest s.track.sections.items p g
+  to_list : (p : ℕ) (g : ℤ) → GradeAt h p g → GradeIn s.track.sections.items p g
   to_list p g (inl w) = inl (w.0, holds_listed (SectionStands h) s.track.sections.items section_place p w.0 k.sections w.1, w.2)
   to_list p g (inr w) = inr ((λ y i. w.0 y (k.sections.stands y i)), w.1)
 
-  from_list : (p : ℕ) (g : ℤ) → GradeIn steepest s.track.sections.items p g → GradeAt h p g
+  from_list : (p : ℕ) (g : ℤ) → GradeIn s.track.sections.items p g → GradeAt h p g
   from_list p g (inl w) = inl (w.0, holds_standing (SectionStands h) s.track.sections.items section_place p w.0 k.sections w.1, w.2)
   from_list p g (inr w) = inr ((λ y a. w.0 y (k.sections.listed y a)), w.1)
 
-  at_is : (p : ℕ) (g : ℤ) → grade_in steepest s.track.sections.items p ≡ g → GradeAt h p g
-  at_is p g e = from_list p g (subst (λ (g : ℤ). GradeIn steepest s.track.sections.items p g) e (grade_in_is steepest s.track.sections.items p ascending))
+  at_is : (p : ℕ) (g : ℤ) → grade_at s.track.sections.items p ≡ g → GradeAt h p g
+  at_is p g e = from_list p g (subst (λ (g : ℤ). GradeIn s.track.sections.items p g) e (grade_at_is s.track.sections.items p ascending))
 
-  at_one : (p : ℕ) (g : ℤ) → GradeAt h p g → grade_in steepest s.track.sections.items p ≡ g
-  at_one p g a = grade_in_one steepest s.track.sections.items p _ g ascending (grade_in_is steepest s.track.sections.items p ascending) (to_list p g a)
+  at_one : (p : ℕ) (g : ℤ) → GradeAt h p g → grade_at s.track.sections.items p ≡ g
+  at_one p g a = grade_at_one s.track.sections.items p _ g ascending (grade_at_is s.track.sections.items p ascending) (to_list p g a)
 
-  pub ahead_is : (front place : ℕ) → GradeAhead h front place (least_grade steepest front place s.track.sections.items)
-  ahead_is front place =
-      elim (cases_lt place front) [
-        | inl passed ↦ inr (passed, at_is front _ (sym (least_passed steepest front place s.track.sections.items passed)))
-        | inr ahead ↦
-            let r = least_reached steepest front place s.track.sections.items ascending ahead in
-            inl (
-              ahead,
-              record {
-                somewhere = (r.0, r.1, r.2, at_is r.0 _ r.3);
-                least = λ p g l m a. subst (λ (g : ℤ). least_grade steepest front place s.track.sections.items ≤ℤ g) (at_one p g a) (least_below steepest front place s.track.sections.items ascending p l m);
-              },
-            )
-      ]
+  -- the computed grade of a stretch is the one by the history
+  module _ (from to : ℕ) (forward : from ≤ to) where
+    stretch_is : GradeOfStretch h from to (least_grade s.track.sections.items from to)
+    stretch_is =
+        let r = least_reached s.track.sections.items from to forward in
+        record {
+          somewhere = (r.0, r.1, r.2, at_is r.0 _ r.3);
+          least = λ p g l m a. subst (λ (g : ℤ). least_grade s.track.sections.items from to ≤ℤ g) (at_one p g a) (least_below s.track.sections.items from to forward p l m);
+        }
 
-  pub ahead_one : (front place : ℕ) (g : ℤ) → GradeAhead h front place g → g ≡ least_grade steepest front place s.track.sections.items
-  ahead_one front place g (inl w) =
-      let r = least_reached steepest front place s.track.sections.items ascending w.0 in
-      let p = w.1.somewhere in
-      let low : least_grade steepest front place s.track.sections.items ≤ℤ g = subst (λ (g : ℤ). least_grade steepest front place s.track.sections.items ≤ℤ g) (at_one p.0 g p.3) (least_below steepest front place s.track.sections.items ascending p.0 p.1 p.2) in
-      let high : g ≤ℤ least_grade steepest front place s.track.sections.items = w.1.least r.0 _ r.1 r.2 (at_is r.0 _ r.3) in
-      omega (arith, ints)
-  ahead_one front place g (inr w) = sym (at_one front g w.1) ∙ sym (least_passed steepest front place s.track.sections.items w.0)
+    stretch_one : (g : ℤ) → GradeOfStretch h from to g → g ≡ least_grade s.track.sections.items from to
+    stretch_one g w =
+        let c : GradeOfStretch h from to (least_grade s.track.sections.items from to) = stretch_is in
+        let p = w.somewhere in
+        let r = c.somewhere in
+        let low : least_grade s.track.sections.items from to ≤ℤ g = c.least p.0 g p.1 p.2 p.3 in
+        let high : g ≤ℤ least_grade s.track.sections.items from to = w.least r.0 _ r.1 r.2 r.3 in
+        omega (arith, ints)
+
+  forward : (front place : ℕ) → rear_of sheet front ≤ max front place
+  forward front place = omega arith
+
+  pub ahead_is : (front place : ℕ) → GradeAhead sheet h front place (least_grade s.track.sections.items (rear_of sheet front) (max front place))
+  ahead_is front place = stretch_is (rear_of sheet front) (max front place) (forward front place)
+
+  pub ahead_one : (front place : ℕ) (g : ℤ) → GradeAhead sheet h front place g → g ≡ least_grade s.track.sections.items (rear_of sheet front) (max front place)
+  ahead_one front place g w = stretch_one (rear_of sheet front) (max front place) (forward front place) g w
 
   -- the ceiling that holds is the one in the list
   pub ceiling_is : (front : ℕ) (c : SpeedCeiling) → CeilingHolds h front c → ceiling_speed_at s.track.ceilings.items front ≡ Some c.speed

@@ -99,28 +99,28 @@ above_none excess e = grind (arith, nat_tests)
 pub clear_under : (o : Option ℕ) (c speed : ℕ) → o ≡ Some c → zone_under o speed ≡ zones.Clear → speed ≤ c
 clear_under o c speed e k = let none : speed - c ≡ 0 = above_none (speed - c) (rw e at k) in omega arith
 
-module _ (m : Meaning) (xs : List Section) (front v : ℕ) where
+module _ (m : Meaning) (xs : List Section) (rear front v : ℕ) where
   -- a binding target has the zone of its verdict
-  pub binding_zone : (t : Target) → Binds m (question xs front v t) → target_zone m xs front v t ≡ zone_of (m.verdict (question xs front v t)) front t.place
+  pub binding_zone : (t : Target) → Binds m (question xs rear front v t) → target_zone m xs rear front v t ≡ zone_of (m.verdict (question xs rear front v t)) front t.place
   binding_zone t b = grind arith
 
   -- one in control makes the largest so
-  pub one_control : (ts : List Target) (t : Target) → In t ts → target_zone m xs front v t ≡ zones.Control → largest_zone m xs front v ts ≡ zones.Control
+  pub one_control : (ts : List Target) (t : Target) → In t ts → target_zone m xs rear front v t ≡ zones.Control → largest_zone m xs rear front v ts ≡ zones.Control
   one_control [] t i e = absurd i
-  one_control (u ∷ us) t (inl same) e = first_control _ _ (ap (λ (t : Target). target_zone m xs front v t) (sym same) ∙ e)
+  one_control (u ∷ us) t (inl same) e = first_control _ _ (ap (λ (t : Target). target_zone m xs rear front v t) (sym same) ∙ e)
   one_control (u ∷ us) t (inr i) e = second_control _ _ (one_control us t i e)
 
   -- where the largest is clear, all are
-  pub all_clear : (ts : List Target) (t : Target) → In t ts → largest_zone m xs front v ts ≡ zones.Clear → target_zone m xs front v t ≡ zones.Clear
+  pub all_clear : (ts : List Target) (t : Target) → In t ts → largest_zone m xs rear front v ts ≡ zones.Clear → target_zone m xs rear front v t ≡ zones.Clear
   all_clear [] t i e = absurd i
-  all_clear (u ∷ us) t (inl same) e = ap (λ (t : Target). target_zone m xs front v t) same ∙ (both_clear _ _ e).0
+  all_clear (u ∷ us) t (inl same) e = ap (λ (t : Target). target_zone m xs rear front v t) same ∙ (both_clear _ _ e).0
   all_clear (u ∷ us) t (inr i) e = all_clear us t i (both_clear _ _ e).1
 
   -- where the largest is control, some binding target's is
-  pub some_control : (ts : List Target) → largest_zone m xs front v ts ≡ zones.Control → (t : Target) × In t ts × Binds m (question xs front v t) × (target_zone m xs front v t ≡ zones.Control)
+  pub some_control : (ts : List Target) → largest_zone m xs rear front v ts ≡ zones.Control → (t : Target) × In t ts × Binds m (question xs rear front v t) × (target_zone m xs rear front v t ≡ zones.Control)
   some_control [] e = grind arith
   some_control (u ∷ us) e = elim (either_control _ _ e) [
-    | inl here ↦ elim (cases_Bool (binds m (question xs front v u))) [ inl binding ↦ (u, inl refl, binding, here) | inr free ↦ grind arith ]
+    | inl here ↦ elim (cases_Bool (binds m (question xs rear front v u))) [ inl binding ↦ (u, inl refl, binding, here) | inr free ↦ grind arith ]
     | inr there ↦ let w = some_control us there in (w.0, inr w.1, w.2, w.3)
   ]
 

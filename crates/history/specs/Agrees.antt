@@ -33,7 +33,7 @@ pub record Agrees (sheet : Values) (m : Meaning) (h : History) (s : State) : Typ
   pub sections : ListedExactly (SectionStands h) s.track.sections.items
   pub targets : ListedExactly (TargetStands sheet h) s.track.targets.items
   pub ceilings : ListedExactly (CeilingStands h) s.track.ceilings.items
-  pub one_grade : HasOneGrade h
+  pub one_grade : HasOneGrade sheet h
   pub one_ceiling : HasOneCeilingAtMost h
   -- the mission remembers a clear sample exactly where the last accepted call was one
   pub remembered : LastAnsweredClear h → s.clear ≡ true

@@ -1,5 +1,5 @@
 -- Runs worked out in numbers, and histories that the three lines rule out.
-use Rattle.std.specs.Prelude.{◌≡◌, ◌*◌, cond, List, [], ◌∷◌, ◌++◌, map, pos, int_lt, None, Ok}
+use Rattle.std.specs.Prelude.{◌≡◌, ◌*◌, cond, List, [], ◌∷◌, ◌++◌, map, pos, negsuc, int_lt, None, Ok}
 use Rattle.std.proofs.Common.{lit<, lit≤, mul-le-mul_right}
 use Rattle.units.specs.Fractions.{whole}
 use Rattle.braking.specs.Meaning.{Meaning, weak, strong}
@@ -40,7 +40,7 @@ tenfold = record {
       }));
 }
 
--- A sheet by which 10 percent of an announced distance are cut off; the rest of it does not matter here.
+-- A sheet of a train 1 m long, by which 10 percent of an announced distance are cut off; the rest of it does not matter here.
 abbrev pub sheet : Values
 sheet = record {
   model = Scmt;
@@ -49,7 +49,7 @@ sheet = record {
   brake = Passenger;
   ep = 0;
   lambda = 100;
-  length = 400;
+  length = 1;
   lfren = Fixed;
   kr = 100;
   tw = 20;
@@ -72,11 +72,17 @@ ceiling_calls = ceiling_from 1000 200 ∷ ceiling_from 2000 300 ∷ ceiling_from
     ∷ sample 1000 250 ∷ sample 1000 251 ∷ sample 1999 300 ∷ sample 1999 301 ∷ sample 2000 301 ∷ release ∷ sample 2000 300 ∷ release ∷ lift 1500 ∷ lift 1000 ∷ sample 1000 500
     ∷ sample 2000 401 ∷ lift 2000 ∷ release ∷ sample 2000 500 ∷ lift 1000000001 ∷ release ∷ []
 
+-- A track that rises from 500 to a crest at 3000, falls from there to 3500, and is level from there on. For a target at 2200: samples with the rear one mm short of the first section and at it, a release.
+-- For a target at 5200: samples with the whole fall under the train, and with the rear at its foot, a release; samples with the rear on the last mm of the fall, and at its foot, a release.
+abbrev pub crest_calls : List Call
+crest_calls = slope 500 (pos 4) ∷ slope 3000 (negsuc 0) ∷ slope 3500 (pos 0) ∷ announce 7 2200 0 5 ∷ sample 1499 20 ∷ sample 1500 20 ∷ release
+    ∷ withdraw 7 ∷ announce 7 5200 0 5 ∷ sample 3900 20 ∷ sample 4500 20 ∷ release ∷ sample 4499 20 ∷ sample 4500 20 ∷ release ∷ []
+
 -- The history of these calls over tenfold, with 10 percent cut off.
 abbrev pub run_of : List Call → History
 run_of cs = run sheet tenfold (start (empty_track full_capacity)) cs
 
--- The answers' numbers and the phases after the calls: the target stands at 990.
+-- The answers' numbers and the phases after the calls: the target of the first run stands at 990.
 pub record Worked : Type 0 where
   pub numbers : map (λ (e : Record). answer_number e.answer) (run_of calls)
       ≡ 0 ∷ 0 ∷ 0 ∷ 0 ∷ 0 ∷ 0 ∷ 0 ∷ 12 ∷ 0 ∷ 8 ∷ 0 ∷ 0 ∷ 0 ∷ 0 ∷ 0 ∷ 12 ∷ 0 ∷ 0 ∷ []
@@ -88,6 +94,10 @@ pub record Worked : Type 0 where
   pub ceiling_phases : map (λ (e : Record). e.phase) (run_of ceiling_calls)
       ≡ Free ∷ Free ∷ Free ∷ Free ∷ Free ∷ Free ∷ Free ∷ Free ∷ Free ∷ Warning ∷ Warning ∷ Emergency ∷ Emergency ∷ Emergency ∷ Emergency ∷ Free
       ∷ Free ∷ Free ∷ Free ∷ Emergency ∷ Emergency ∷ Emergency ∷ Emergency ∷ Emergency ∷ Free ∷ []
+  pub crest_numbers : map (λ (e : Record). answer_number e.answer) (run_of crest_calls)
+      ≡ 0 ∷ 0 ∷ 0 ∷ 0 ∷ 0 ∷ 0 ∷ 0 ∷ 0 ∷ 0 ∷ 0 ∷ 0 ∷ 0 ∷ 0 ∷ 0 ∷ 0 ∷ []
+  pub crest_phases : map (λ (e : Record). e.phase) (run_of crest_calls)
+      ≡ Free ∷ Free ∷ Free ∷ Free ∷ Emergency ∷ Emergency ∷ Free ∷ Free ∷ Free ∷ Emergency ∷ Emergency ∷ Free ∷ Emergency ∷ Emergency ∷ Free ∷ []
 
 -- An accepted call with the phase after it.
 abbrev pub accepted_entry : Call → Phase → Record
@@ -96,6 +106,10 @@ accepted_entry c p = record { call = c; answer = Ok None; phase = p }
 -- A target of speed 5 that stands at 990, on a grade of 4.
 abbrev pub one_target : History
 one_target = accepted_entry (slope 0 (pos 4)) Free ∷ accepted_entry (announce 7 905 95 5) Free ∷ []
+
+-- A target of speed 5 that stands at 2000, on a track that falls up to 500 and is level from there on.
+abbrev pub past_a_fall : History
+past_a_fall = accepted_entry (slope 0 (negsuc 0)) Free ∷ accepted_entry (slope 500 (pos 0)) Free ∷ accepted_entry (announce 7 2000 0 5) Free ∷ []
 
 -- A ceiling of speed 30 from the place 100 on.
 abbrev pub one_ceiling : History
@@ -123,6 +137,10 @@ pub record RuledOut : Type 0 where
   pub not_yet : BreaksTheLines (one_target ++ accepted_entry (sample 790 20) Emergency ∷ accepted_entry (sample 740 20) Emergency ∷ accepted_entry release Free ∷ [])
   -- far from a target, but with no section known: the steepest fall, where tenfold is weak
   pub unknown_grade : BreaksTheLines (accepted_entry (announce 7 905 95 5) Free ∷ accepted_entry (sample 0 20) Free ∷ [])
+  -- the rear of the train is on the last mm of a fall, where tenfold is weak, and the brake stays off
+  pub under_the_rear : BreaksTheLines (past_a_fall ++ accepted_entry (sample 1499 20) Free ∷ [])
+  -- the brake comes on 500 before the target, with the fall just left behind
+  pub behind_the_rear : BreaksTheLines (past_a_fall ++ accepted_entry (sample 1500 20) Emergency ∷ [])
   -- the brake comes on for a target that was withdrawn
   pub withdrawn : BreaksTheLines (one_target ++ accepted_entry (withdraw 7) Free ∷ accepted_entry (sample 790 20) Emergency ∷ [])
   -- 101 above the ceiling at its very place, and the brake stays off

@@ -1,5 +1,5 @@
 -- What was called and answered, and what stands by it: by the entries alone, with no list of the mission's.
-use Rattle.std.specs.Prelude.{◌≡◌, ℕ, ◌+◌, ◌-◌, ◌*◌, ◌<◌, ◌≤◌, ◌⊎◌, List, ◌∷◌, ◌++◌, ℤ, ◌≤ℤ◌, Ok, Err}
+use Rattle.std.specs.Prelude.{◌≡◌, ℕ, ◌+◌, ◌-◌, ◌*◌, ◌<◌, ◌≤◌, ◌⊎◌, List, ◌∷◌, ◌++◌, ℤ, ◌≤ℤ◌, Ok, Err, max}
 use Rattle.units.specs.Rounding.{ceiling}
 use Rattle.units.specs.declared.limits.TheConstants.{STEEPEST_FALL}
 use Rattle.sheet.specs.declared.values.Values.{Values}
@@ -133,15 +133,18 @@ pub record GradeOfStretch (h : History) (a b : ℕ) (g : ℤ) : Type 0 where
   pub somewhere : (p : ℕ) × (a ≤ p) × (p ≤ b) × GradeAt h p g
   pub least : (p : ℕ) (k : ℤ) → a ≤ p → p ≤ b → GradeAt h p k → g ≤ℤ k
 
--- The grade ahead, from the front to a place: that of the stretch between, and at the front once the place is passed.
-abbrev pub GradeAhead : History → ℕ → ℕ → ℤ → Type 0
-GradeAhead h front place g =
-    ((front ≤ place) × GradeOfStretch h front place g) ⊎ ((place < front) × GradeAt h front g)
+-- The rear of the train by its front: the sheet's length behind it, at 1,000 mm to the metre, and not below place 0.
+abbrev pub rear_of : (sheet : Values) (front : ℕ) → ℕ
+rear_of sheet front = front - 1000 * sheet.length
+
+-- The grade ahead, for a place: that of the stretch from the train's rear to the place, or to its front once the place is passed.
+abbrev pub GradeAhead : (sheet : Values) → History → (front place : ℕ) → ℤ → Type 0
+GradeAhead sheet h front place g = GradeOfStretch h (rear_of sheet front) (max front place) g
 
 -- A target that stands after the history and binds at the sample, with its question there.
 pub record Bound (sheet : Values) (m : Meaning) (h : History) (front speed : ℕ) (t : Target) (q : Question) : Type 0 where
   pub stands : TargetStands sheet h t
   pub asks_speed : q.speed ≡ speed
   pub asks_target : q.target_speed ≡ t.speed
-  pub asks_grade : GradeAhead h front t.place q.grade
+  pub asks_grade : GradeAhead sheet h front t.place q.grade
   pub binds : Binds m q

@@ -108,13 +108,13 @@ pub record Lines (sheet : Values) (m : Meaning) (before : History) (e : Record) 
 abbrev pub KeepsTheLines : (sheet : Values) → Meaning → History → Type 0
 KeepsTheLines sheet m h = (before : History) (e : Record) (after : History) → h ≡ before ++ e ∷ after → Lines sheet m before e
 
--- Every stretch ahead has one grade, so that every binding target has one question.
-abbrev pub HasOneGrade : History → Type 0
-HasOneGrade h = (front place : ℕ) → (g : ℤ) × GradeAhead h front place g × ((k : ℤ) → GradeAhead h front place k → k ≡ g)
+-- Every stretch ahead, from the rear of the sheet's train on, has one grade, so that every binding target has one question.
+abbrev pub HasOneGrade : (sheet : Values) → History → Type 0
+HasOneGrade sheet h = (front place : ℕ) → (g : ℤ) × GradeAhead sheet h front place g × ((k : ℤ) → GradeAhead sheet h front place k → k ≡ g)
 
 -- So it is before each entry: the lines speak of something.
-abbrev pub GivesOneGrade : History → Type 0
-GivesOneGrade h = (before : History) (e : Record) (after : History) → h ≡ before ++ e ∷ after → HasOneGrade before
+abbrev pub GivesOneGrade : (sheet : Values) → History → Type 0
+GivesOneGrade sheet h = (before : History) (e : Record) (after : History) → h ≡ before ++ e ∷ after → HasOneGrade sheet before
 
 -- At every place one ceiling holds and no other, or every one that stands begins further on.
 abbrev pub HasOneCeilingAtMost : History → Type 0

@@ -163,7 +163,7 @@ does sheet m s (Announce n p d v) = after_call (record s { track = with_target (
 does sheet m s (Withdraw n) = after_call (record s { track = without_target n s.track })
 does sheet m s (Ceiling p v) = after_call (record s { track = with_ceiling (record { place = p.millimetres; speed = v.tenths }) s.track })
 does sheet m s (Lift p) = after_call (record s { track = without_ceiling p.millimetres s.track })
-does sheet m s (Sample p v) = after_sample s (zone m s.track p.millimetres v.tenths)
+does sheet m s (Sample p v) = after_sample s (zone sheet m s.track p.millimetres v.tenths)
 does sheet m s Release = after_call (record s { phase = Free })
 
 -- A refusal leaves the state alone.

@@ -16,10 +16,10 @@ abbrev pub EveryRunKeepsTheLines : Type 0
 EveryRunKeepsTheLines = (sheet : Values) (m : Meaning) → Lawful m → (capacity : Capacity) (calls : List Call) →
     KeepsTheLines sheet m (run sheet m (start (empty_track capacity)) calls)
 
--- In the history of a run every stretch ahead has one grade, so that every binding target has one question.
+-- In the history of a run every stretch ahead, from the rear of the sheet's train on, has one grade, so that every binding target has one question.
 abbrev pub EveryStretchHasOneGrade : Type 0
 EveryStretchHasOneGrade = (sheet : Values) (m : Meaning) (capacity : Capacity) (calls : List Call) →
-    GivesOneGrade (run sheet m (start (empty_track capacity)) calls)
+    GivesOneGrade sheet (run sheet m (start (empty_track capacity)) calls)
 
 -- In the history of a run at every place one ceiling holds, or none has begun.
 abbrev pub EveryPlaceHasOneCeilingAtMost : Type 0

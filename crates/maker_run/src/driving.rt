@@ -19,7 +19,7 @@ pub(crate) fn drive<const CALLS: usize>(
     ensures calls { map (λ e. e.call) result ≡ calls.now }
     ensures history { result ≡ history_of sheet.values (brake_meaning brake) (start (empty_track full_capacity)) calls.now }
     ensures lines { KeepsTheLines sheet.values (brake_meaning brake) result }
-    ensures grades { GivesOneGrade result }
+    ensures grades { GivesOneGrade sheet.values result }
     ensures ceilings { GivesOneCeilingAtMost result }
 {
     let mut sections = [Placed::default(); MAX_SECTIONS];

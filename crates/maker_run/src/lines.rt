@@ -4,7 +4,7 @@ use calls::{Call, Record};
 use constant_brake::ConstantBrake;
 use session::Shown;
 use std::io;
-use supervision::{Stretch, target_place};
+use supervision::{Position, Sections, target_place};
 use units::{Distance, Speed};
 
 // A call, for a sample the question that its target is judged by, and what the call was answered. Its zone may be the ceiling's, which no question asks for.
@@ -31,12 +31,14 @@ fn show_question(
     let Some(place) = target_place(POINT, DISTANCE, &SHEET) else {
         return println!(rt; "no place");
     };
-    let stretch = Stretch { front, place };
-    let grade = stretch.grade_ahead(&SECTIONS);
+    let position = Position::of_front(front, &SHEET);
+    let grade = position
+        .stretch_to(place)
+        .least_grade(Sections { items: &SECTIONS });
     print!(rt;
         "grade={} left={} ",
         grade.thousandths,
-        stretch.distance_left().millimetres
+        position.distance_left(place).millimetres
     )?;
     let question = Question {
         speed,

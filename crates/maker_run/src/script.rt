@@ -11,7 +11,7 @@ pub(crate) const BRAKE: BrakeData = BrakeData {
     top: Speed { tenths: 1_600 },
 };
 
-// The train sheet. Of it the mission takes eps, and the brake tw and ti; the rest is for scmt and etcs.
+// The train sheet. Of it the mission takes the length and eps, and the brake tw and ti; the rest is for scmt and etcs.
 pub(crate) const SHEET: Values = Values {
     model: Model::Etcs,
     regime: Regime::Operation,
@@ -27,18 +27,22 @@ pub(crate) const SHEET: Values = Values {
     eps: 2,
 };
 
-// The track falls, and from the second section on falls more.
+// The track falls, and more so between the bend and the foot. Once the front of the train has passed the foot, its rear stays on the steep part for another 200 m.
 const START: Distance = Distance { millimetres: 0 };
 
 const BEND: Distance = Distance {
     millimetres: 1_500_000,
 };
 
+const FOOT: Distance = Distance {
+    millimetres: 2_000_000,
+};
+
 const GENTLE: Grade = Grade { thousandths: -4 };
 
 const STEEP: Grade = Grade { thousandths: -12 };
 
-pub(crate) const SECTIONS: [Placed<Grade>; 2] = [
+pub(crate) const SECTIONS: [Placed<Grade>; 3] = [
     Placed {
         place: START,
         item: GENTLE,
@@ -46,6 +50,10 @@ pub(crate) const SECTIONS: [Placed<Grade>; 2] = [
     Placed {
         place: BEND,
         item: STEEP,
+    },
+    Placed {
+        place: FOOT,
+        item: GENTLE,
     },
 ];
 
@@ -68,7 +76,7 @@ const YARD: Distance = Distance {
 const YARD_SPEED: Speed = Speed { tenths: 150 };
 
 // The calls: the track, the target and the yard, then the train runs up to the one and into the other.
-pub(crate) const CALLS: [Call; 24] = [
+pub(crate) const CALLS: [Call; 25] = [
     Call::Slope {
         place: START,
         grade: GENTLE,
@@ -76,6 +84,10 @@ pub(crate) const CALLS: [Call; 24] = [
     Call::Slope {
         place: BEND,
         grade: STEEP,
+    },
+    Call::Slope {
+        place: FOOT,
+        grade: GENTLE,
     },
     Call::Announce {
         number: 1,

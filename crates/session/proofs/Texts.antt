@@ -60,6 +60,6 @@ text_answered text capacity a records shown sheet valid is w = record {
   is_sheet = is;
   answers = w;
   keeps = subst (λ (h : History). KeepsTheLines sheet (meaning_of sheet.model sheet) h) (sym w.history) (every_run sheet (meaning_of sheet.model sheet) (model_lawful sheet.model sheet valid) capacity (calls_of w.lines));
-  grades = subst GivesOneGrade (sym w.history) (one_grade sheet (meaning_of sheet.model sheet) capacity (calls_of w.lines));
+  grades = subst (GivesOneGrade sheet) (sym w.history) (one_grade sheet (meaning_of sheet.model sheet) capacity (calls_of w.lines));
   ceilings = subst GivesOneCeilingAtMost (sym w.history) (one_ceiling sheet (meaning_of sheet.model sheet) capacity (calls_of w.lines));
 }

@@ -55,11 +55,11 @@ pub record AnswersLines (sheet : Values) (m : Meaning) (s : State) (text : List 
   pub history : take a.calls records ≡ run sheet m s (calls_of lines)
   pub shows : Shows s.phase lines (take a.calls records) (take a.lines shown)
 
--- A text is answered: its sheet is this one, its call lines are answered over the model that the sheet names, and their records keep the three lines; every stretch ahead has one grade, and every place one ceiling at most.
+-- A text is answered: its sheet is this one, its call lines are answered over the model that the sheet names, and their records keep the three lines; every stretch ahead, from the rear of the sheet's train on, has one grade, and every place one ceiling at most.
 pub record AnswersText (text : List ℕ) (track : Track) (a : Answered) (records : List Record) (shown : List Shown) : Type 0 where
   pub sheet : Values
   pub is_sheet : IsText (sheet_part text) sheet
   pub answers : AnswersLines sheet (meaning_of sheet.model sheet) (start track) (call_part text) a records shown
   pub keeps : KeepsTheLines sheet (meaning_of sheet.model sheet) (take a.calls records)
-  pub grades : GivesOneGrade (take a.calls records)
+  pub grades : GivesOneGrade sheet (take a.calls records)
   pub ceilings : GivesOneCeilingAtMost (take a.calls records)

@@ -1,4 +1,5 @@
 mod Items
+mod Inside
 mod Grades
 mod Holding
 mod Verdicts

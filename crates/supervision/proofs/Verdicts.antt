@@ -1,5 +1,5 @@
 -- The zone of a target by what a model answers to its question.
-use Rattle.std.proofs.Common.{◌≡◌, ℕ, ◌≤◌, ℤ, true, false, cond, List, Ok, Err, Some, None, Result, Option, refl, subst, arith}
+use Rattle.std.proofs.Common.{◌≡◌, ℕ, ◌≤◌, max, ℤ, true, false, cond, List, Ok, Err, Some, None, Result, Option, subst, arith}
 use Rattle.std.proofs.lemmas.Bool.{le-ltb}
 use Rattle.braking.specs.Answers.{Answered, Says}
 use Rattle.braking.specs.Meaning.{Meaning, Question, Verdict, binds, weak, strong}
@@ -7,7 +7,7 @@ use Rattle.braking.specs.declared.distances.Distances.{Distances}
 use Rattle.braking.specs.declared.refusal.Refusal.{Refusal}
 use Rattle.braking.specs.declared.refusal.Refusal.TheVariants.{TooFast, GradeOutOfLimits, NotBinding}
 use Rattle.calls.specs.declared.zone.Zone.TheVariants.{Clear}
-use Rattle.history.specs.History.{Section, Target, steepest}
+use Rattle.history.specs.History.{Section, Target}
 use Rattle.history.specs.State.{is_unfit, valid_sections}
 use Rattle.history.specs.Zones.{least_grade, question, target_zone, zone_of}
 use Rattle.history.proofs.Grades.{least_fit}
@@ -32,9 +32,9 @@ judged m q (Err GradeOutOfLimits) front place w slow fit = absurd (grind arith)
 judged m q (Err NotBinding) front place w slow fit = rw w.1
 
 -- So the zone of a target is what its question is judged as.
-pub judged_target : (m : Meaning) (xs : List Section) (front speed : ℕ) (t : Target) (grade : ℤ) (r : Result (Option Distances) Refusal) → grade ≡ least_grade steepest front t.place xs →
-    Answered m (record { speed = speed; target_speed = t.speed; grade = grade }) r → speed ≤ m.top → valid_sections xs ≡ true → judged_zone r front t.place ≡ target_zone m xs front speed t
-judged_target m xs front speed t grade r e w slow v =
-    judged m (question xs front speed t) r front t.place
+pub judged_target : (m : Meaning) (xs : List Section) (rear front speed : ℕ) (t : Target) (grade : ℤ) (r : Result (Option Distances) Refusal) → grade ≡ least_grade xs rear (max front t.place) →
+    Answered m (record { speed = speed; target_speed = t.speed; grade = grade }) r → speed ≤ m.top → valid_sections xs ≡ true → judged_zone r front t.place ≡ target_zone m xs rear front speed t
+judged_target m xs rear front speed t grade r e w slow v =
+    judged m (question xs rear front speed t) r front t.place
     (subst (λ (k : ℤ). Answered m (record { speed = speed; target_speed = t.speed; grade = k }) r) e w) slow
-    (least_fit steepest front t.place xs refl (valid_fit xs v))
+    (least_fit xs rear (max front t.place) (valid_fit xs v))

@@ -26,7 +26,7 @@ pub fn run<M: BrakingModel + Drop>(
     ensures calls { map (λ e. e.call) (take result.calls_made records.new) ≡ take result.calls_made calls.now }
     ensures history { take result.calls_made records.new ≡ run sheet.values (M.BrakingModel.meaning model) (start (opened_track memory.entry)) (take result.calls_made calls.now) }
     ensures lines { KeepsTheLines sheet.values (M.BrakingModel.meaning model) (take result.calls_made records.new) }
-    ensures grades { GivesOneGrade (take result.calls_made records.new) }
+    ensures grades { GivesOneGrade sheet.values (take result.calls_made records.new) }
     ensures ceilings { GivesOneCeilingAtMost (take result.calls_made records.new) }
     ensures rest { drop result.calls_made records.new ≡ drop result.calls_made records.old }
     ensures draft { result.draft.values ≡ sheet.values }

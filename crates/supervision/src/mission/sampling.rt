@@ -12,7 +12,7 @@ use calls::Refusal;
 use units::{Distance, Speed};
 
 impl<M: BrakingModel> Mission<M> {
-    // The train's front is at the place and runs this fast: works out the zone and the phase.
+    // The train's front is at the place, its rear the sheet's `length` behind that, or at place 0 where that would be below it, and it runs this fast: works out the zone and the phase.
     // Refused where the place is beyond the furthest (7), or the speed above 4,000 tenths of km/h (8). A speed above the model's top speed is accepted, in zone 3.
     pub fn sample(
         &mut self,
@@ -25,7 +25,7 @@ impl<M: BrakingModel> Mission<M> {
         ensures law { Law M.BrakingModel.meaning (Sample place speed) (sample_answer_of result) self.old self.new lists.now lists.now }
     {
         check_sample(place, speed)?;
-        let zone = sample_zone(&self.model, lists, place, speed);
+        let zone = sample_zone(&self.model, &self.sheet.values(), lists, place, speed);
         self.enter(zone);
         Ok(Sampled {
             phase: self.phase,

@@ -1,0 +1,13 @@
+ghost use Rattle.std.specs.Prelude.{◌≡◌, true};
+ghost use Rattle.history.specs.State.{valid_sections};
+ghost use Rattle.supervision.specs.Items.{sections_in};
+
+use place_list::Placed;
+use units::Grade;
+
+// The sections of a line, each with the place that it begins at and its grade from there on. By their type each begins further on than the one before it, and its grade is from -35 to 35 thousandths, as a mission's lists hold them.
+#[derive(Clone, Copy)]
+pub struct Sections<'a> {
+    pub items: &'a [Placed<Grade>],
+    ghost valid: { valid_sections (sections_in items.now) ≡ true },
+}
