@@ -14,6 +14,7 @@ use Rattle.call_text.specs.declared.kind_line.Found.{Found}
 use Rattle.call_text.proofs.CallParts.{calls_told_apart, answer_in_kinds, same_answer, same_call}
 use Rattle.call_text.proofs.KindAcceptance.{one_line, taken_exactly, goes_forward}
 use Rattle.call_text.proofs.KindAnswers.{one_answer}
+use Rattle.call_text.proofs.LineRoom.{within_line_room, calls_room}
 
 -- the line of a call without its line feed
 abbrev call_line : Call → List ℕ
@@ -27,6 +28,11 @@ line_then c rest = append_assoc (call_line c) (feed ∷ []) rest
 written_length : (c : Call) → length (written_call c) ≡ length (call_line c) + 1
 unfolding written_call
 written_length c = length-append (call_line c) (feed ∷ [])
+
+-- the line of every call is within the window
+pub short : (c : Call) → IsWritable c → IsWithinWindow c
+unfolding IsWritable
+short c writable = omega (arith, written_length c, within_line_room call_kinds (parts_of c).0 (parts_of c).1 writable, calls_room)
 
 within_line : (c : Call) → IsWithinWindow c → length (call_line c) < line_window
 within_line c within = omega (arith, written_length c)
@@ -54,11 +60,11 @@ answers_in_kinds text (Ok c) next a = kind_line_from_call text c next a
 answers_in_kinds text (Err f) next a = a
 
 -- a text that begins with that of a call is taken as that call
-pub taken : (text : List ℕ) (r : Result Call CallFault) (next : ℕ) → TextAnswers text r next → (c : Call) (rest : List ℕ) → IsWritable c → IsWithinWindow c → text ≡ written_call c ++ rest → r ≡ Ok c
+pub taken : (text : List ℕ) (r : Result Call CallFault) (next : ℕ) → TextAnswers text r next → (c : Call) (rest : List ℕ) → IsWritable c → text ≡ written_call c ++ rest → r ≡ Ok c
 unfolding IsWritable TakenExactly
-taken text r next a c rest writable within e =
+taken text r next a c rest writable e =
     same_answer r (Ok c)
-    (taken_exactly call_kinds text calls_told_apart (parts_of c).0 (parts_of c).1 rest (answer_in_kinds r) next writable (within_line c within) (e ∙ line_then c rest) (answers_in_kinds text r next a))
+    (taken_exactly call_kinds text calls_told_apart (parts_of c).0 (parts_of c).1 rest (answer_in_kinds r) next writable (within_line c (short c writable)) (e ∙ line_then c rest) (answers_in_kinds text r next a))
 
 pub one_call : OneCall
 unfolding OneCall IsWritable HasOneLine

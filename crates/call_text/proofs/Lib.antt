@@ -2,6 +2,7 @@ pub mod FaultTurning
 pub mod Heads
 pub mod LineFinding
 pub mod KindTexts
+pub mod LineRoom
 pub mod KindReadings
 pub mod KindAcceptance
 pub mod KindAnswers

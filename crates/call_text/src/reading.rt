@@ -18,11 +18,12 @@ fn read_line(text: &[u8]) -> CallLine
     }
 }
 
-// The first line of a text as a call, or its first fault, and where the next line begins. A line within the window is taken exactly where it is the text of a call.
+// The first line of a text as a call, or its first fault, and where the next line begins. A line is taken exactly where it is the text of a call, which is always within the window.
 // `read_line` reads and promises `answers` alone; the other clauses follow from that one.
 pub fn read_call(text: &[u8]) -> CallLine
     ensures answers { TextAnswers text.now result.call result.next }
-    ensures exactly { (c : SomeCall) (rest : List ℕ) → IsWritable c → IsWithinWindow c → text.now ≡ written_call c ++ rest → result.call ≡ TheCall c }
+    ensures exactly { (c : SomeCall) (rest : List ℕ) → IsWritable c → text.now ≡ written_call c ++ rest → result.call ≡ TheCall c }
+    ensures short { (c : SomeCall) → IsWritable c → IsWithinWindow c }
     ensures only { OneCall }
     ensures once { OneAnswer text.now }
     ensures within { result.next ≤ length text.now }

@@ -16,7 +16,7 @@ fn show(rt: &impl Print, text: &[u8]) -> io::Result<()> {
 
 fn main(rt: HostRuntime) -> io::Result<()> {
     let texts = read_at_most(rt.alloc(), rt.stdin(), MAX_BYTES_OF_TEXTS)?;
-    for text in ended_texts(rt.alloc(), texts.as_slice(), TEXT_END)?.as_slice() {
+    for text in ended_texts(texts.as_slice(), TEXT_END) {
         show(&rt, text)?;
     }
     Ok(())

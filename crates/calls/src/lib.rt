@@ -7,7 +7,7 @@ mod record;
 mod refusal;
 mod zone;
 
-pub use answer::Answer;
+pub use answer::{Answer, answer_number};
 pub use call::Call;
 pub use phase::Phase;
 pub use record::Record;

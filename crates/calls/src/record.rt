@@ -1,7 +1,7 @@
 ghost use Rattle.std.specs.Prelude.{◌≡◌};
 ghost use Rattle.calls.specs.Answers.{answer_number};
 
-use crate::answer::Answer;
+use crate::answer::{Answer, answer_number};
 use crate::call::Call;
 use crate::phase::Phase;
 
@@ -25,6 +25,6 @@ impl Record {
     pub fn answer_number(self) -> u8
         ensures { result ≡ answer_number self.answer }
     {
-        self.answer.map_or_else(|refusal| refusal.number(), |_| 0)
+        answer_number(self.answer)
     }
 }

@@ -1,5 +1,5 @@
 -- Every step keeps that a history keeps the lines and agrees with the state; so every run keeps the lines, by induction over its calls.
-use Rattle.std.proofs.Common.{◌≡◌, List, [], ◌∷◌, ◌++◌, refl, ap, subst, append_assoc, inl, inr}
+use Rattle.std.proofs.Common.{◌≡◌, List, [], ◌∷◌, ◌++◌, refl, sym, ap, subst, append_assoc, inl, inr}
 use Rattle.std.proofs.lemmas.List.{append-nil}
 use Rattle.sheet.specs.declared.values.Values.{Values}
 use Rattle.braking.specs.Laws.{Lawful}
@@ -17,7 +17,7 @@ use Rattle.history.proofs.Memory.{remembers}
 use Rattle.history.proofs.Splits.{nil_split, not_true, split_push}
 use Rattle.history.proofs.Steps.{good_step}
 use Rattle.history.proofs.Tracked.{Tracks}
-use Rattle.history.proofs.Tracks.{tracks_start, tracks_step, ahead_is, ahead_one, one_ceiling_there}
+use Rattle.history.proofs.Tracks.{tracks_start, tracks_step, at_is, at_one, stretch_is, stretch_one, ahead_is, ahead_one, one_ceiling_there}
 use Rattle.history.proofs.Validity.{step_valid}
 
 keeps_none : (sheet : Values) (m : Meaning) → KeepsTheLines sheet m []
@@ -41,7 +41,11 @@ tracks_of sheet m h s v a = record {
 }
 
 one_grade_there : (sheet : Values) (h : History) (s : State) → Tracks sheet h s → HasOneGrade sheet h
-one_grade_there sheet h s k front place = (_, ahead_is sheet h s k front place, λ g a. ahead_one sheet h s k front place g a)
+one_grade_there sheet h s k = record {
+  at_place = λ p. (_, at_is sheet h s k p _ refl, λ g a. sym (at_one sheet h s k p g a));
+  of_stretch = λ a b forward. (_, stretch_is sheet h s k a b forward, λ g w. stretch_one sheet h s k a b forward g w);
+  ahead = λ front place. (_, ahead_is sheet h s k front place, λ g a. ahead_one sheet h s k front place g a);
+}
 
 pub start_agrees : TheStartAgrees
 start_agrees sheet m capacity =

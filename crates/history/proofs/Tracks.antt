@@ -57,15 +57,15 @@ module _ (sheet : Values) (h : History) (s : State) (k : Tracks sheet h s) where
   from_list p g (inl w) = inl (w.0, holds_standing (SectionStands h) s.track.sections.items section_place p w.0 k.sections w.1, w.2)
   from_list p g (inr w) = inr ((λ y a. w.0 y (k.sections.listed y a)), w.1)
 
-  at_is : (p : ℕ) (g : ℤ) → grade_at s.track.sections.items p ≡ g → GradeAt h p g
+  pub at_is : (p : ℕ) (g : ℤ) → grade_at s.track.sections.items p ≡ g → GradeAt h p g
   at_is p g e = from_list p g (subst (λ (g : ℤ). GradeIn s.track.sections.items p g) e (grade_at_is s.track.sections.items p ascending))
 
-  at_one : (p : ℕ) (g : ℤ) → GradeAt h p g → grade_at s.track.sections.items p ≡ g
+  pub at_one : (p : ℕ) (g : ℤ) → GradeAt h p g → grade_at s.track.sections.items p ≡ g
   at_one p g a = grade_at_one s.track.sections.items p _ g ascending (grade_at_is s.track.sections.items p ascending) (to_list p g a)
 
   -- the computed grade of a stretch is the one by the history
   module _ (from to : ℕ) (forward : from ≤ to) where
-    stretch_is : GradeOfStretch h from to (least_grade s.track.sections.items from to)
+    pub stretch_is : GradeOfStretch h from to (least_grade s.track.sections.items from to)
     stretch_is =
         let r = least_reached s.track.sections.items from to forward in
         record {
@@ -73,7 +73,7 @@ module _ (sheet : Values) (h : History) (s : State) (k : Tracks sheet h s) where
           least = λ p g l m a. subst (λ (g : ℤ). least_grade s.track.sections.items from to ≤ℤ g) (at_one p g a) (least_below s.track.sections.items from to forward p l m);
         }
 
-    stretch_one : (g : ℤ) → GradeOfStretch h from to g → g ≡ least_grade s.track.sections.items from to
+    pub stretch_one : (g : ℤ) → GradeOfStretch h from to g → g ≡ least_grade s.track.sections.items from to
     stretch_one g w =
         let c : GradeOfStretch h from to (least_grade s.track.sections.items from to) = stretch_is in
         let p = w.somewhere in

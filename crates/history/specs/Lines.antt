@@ -6,7 +6,7 @@ use Rattle.braking.specs.Meaning.{Meaning, Question, Verdict, weak, strong}
 use Rattle.calls.specs.declared.phase.Phase.{Phase}
 use Rattle.calls.specs.declared.phase.Phase.TheVariants.{Free, Emergency}
 use Rattle.calls.specs.declared.record.Record.{Record}
-use Rattle.history.specs.History.{History, SpeedCeiling, Target, Accepts, Bound, CeilingHolds, CeilingStands, GradeAhead, WasAccepted, sample, release}
+use Rattle.history.specs.History.{History, SpeedCeiling, Target, Accepts, Bound, CeilingHolds, CeilingStands, GradeAhead, GradeAt, GradeOfStretch, WasAccepted, sample, release}
 
 -- The distance left is the place less the front, below zero once the place is passed.
 -- It is compared by adding the front on the other side, so that no number is below zero.
@@ -108,9 +108,15 @@ pub record Lines (sheet : Values) (m : Meaning) (before : History) (e : Record) 
 abbrev pub KeepsTheLines : (sheet : Values) → Meaning → History → Type 0
 KeepsTheLines sheet m h = (before : History) (e : Record) (after : History) → h ≡ before ++ e ∷ after → Lines sheet m before e
 
--- Every stretch ahead, from the rear of the sheet's train on, has one grade, so that every binding target has one question.
-abbrev pub HasOneGrade : (sheet : Values) → History → Type 0
-HasOneGrade sheet h = (front place : ℕ) → (g : ℤ) × GradeAhead sheet h front place g × ((k : ℤ) → GradeAhead sheet h front place k → k ≡ g)
+-- It is so for one grade and for no other.
+abbrev pub IsOfOneGrade : (ℤ → Type 0) → Type 0
+IsOfOneGrade Is = (g : ℤ) × Is g × ((k : ℤ) → Is k → k ≡ g)
+
+-- Every place has one grade, and every stretch; so has every stretch ahead, from the rear of the sheet's train on, and every binding target has one question.
+pub record HasOneGrade (sheet : Values) (h : History) : Type 0 where
+  pub at_place : (p : ℕ) → IsOfOneGrade (GradeAt h p)
+  pub of_stretch : (a b : ℕ) → a ≤ b → IsOfOneGrade (GradeOfStretch h a b)
+  pub ahead : (front place : ℕ) → IsOfOneGrade (GradeAhead sheet h front place)
 
 -- So it is before each entry: the lines speak of something.
 abbrev pub GivesOneGrade : (sheet : Values) → History → Type 0

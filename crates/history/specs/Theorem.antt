@@ -16,7 +16,7 @@ abbrev pub EveryRunKeepsTheLines : Type 0
 EveryRunKeepsTheLines = (sheet : Values) (m : Meaning) → Lawful m → (capacity : Capacity) (calls : List Call) →
     KeepsTheLines sheet m (run sheet m (start (empty_track capacity)) calls)
 
--- In the history of a run every stretch ahead, from the rear of the sheet's train on, has one grade, so that every binding target has one question.
+-- In the history of a run every place and every stretch has one grade; so has every stretch ahead, from the rear of the sheet's train on, and every binding target has one question.
 abbrev pub EveryStretchHasOneGrade : Type 0
 EveryStretchHasOneGrade = (sheet : Values) (m : Meaning) (capacity : Capacity) (calls : List Call) →
     GivesOneGrade sheet (run sheet m (start (empty_track capacity)) calls)

@@ -24,7 +24,7 @@ pub fn every_run_keeps_the_lines()
     ensures { EveryRunKeepsTheLines }
 {}
 
-// Every stretch ahead, from the rear of the sheet's train on, has one grade, so that every binding target has one question.
+// Every place and every stretch has one grade; so has every stretch ahead, from the rear of the sheet's train on, and every binding target has one question.
 pub fn every_stretch_has_one_grade()
     ensures { EveryStretchHasOneGrade }
 {}

@@ -1,20 +1,42 @@
-ghost use Rattle.std.specs.Prelude.{◌≡◌, ◌==◌, ℕ, List, [], ◌∷◌, ◌++◌, map, IfOk};
+ghost use Rattle.std.specs.Prelude.{◌≡◌, ◌==◌, ℕ, List, [], ◌∷◌, ◌++◌, position};
 ghost use Rattle.std.specs.List.{slice_split};
+ghost use Rattle.input.specs.Texts.{texts_left};
 
-use std::alloc::{AllocError, Global};
-
-// The texts that each end with a byte, without it; what stands behind the last such byte is no text.
-pub fn ended_texts<'a>(heap: Global, bytes: &'a [u8], end: u8) -> Result<Vec<&'a [u8]>, AllocError>
-    ensures { IfOk result (λ v. (last : List ℕ) × (map (λ x. x.now) v.items ++ last ∷ [] ≡ slice_split (λ b. b == end) bytes.now)) }
-{
-    let mut texts = pieces(heap, bytes, end)?;
-    texts.pop();
-    Ok(texts)
+// Texts that each end with a byte, one after the other, in the memory that they were read into.
+#[derive(Clone, Debug, PartialEq, Eq, Drop)]
+pub struct EndedTexts<'a> {
+    // from the next text on
+    rest: &'a [u8],
+    end: u8,
 }
 
-// The bytes between those that end a text.
-fn pieces<'a>(heap: Global, bytes: &'a [u8], end: u8) -> Result<Vec<&'a [u8]>, AllocError>
-    ensures { IfOk result (λ v. map (λ x. x.now) v.items ≡ slice_split (λ b. b == end) bytes.now) }
+// The texts that each end with a byte, without it; what stands behind the last such byte is no text.
+pub fn ended_texts(bytes: &[u8], end: u8) -> EndedTexts<'_>
+    ensures { (last : List ℕ) × (texts_left result ++ last ∷ [] ≡ slice_split (λ b. b == end) bytes.now) }
 {
-    bytes.split(|byte| *byte == end).collect(heap)
+    EndedTexts { rest: bytes, end }
+}
+
+impl<'a> Iterator for EndedTexts<'a> {
+    ghost use Rattle.std.specs.Iterator.{YieldsFirstBy, item_count};
+
+    type Item = &'a [u8];
+
+    ghost next_gives = { YieldsFirstBy (λ text. text.now) texts_left };
+
+    ghost remaining = { item_count texts_left };
+
+    fn next(&mut self) -> Option<&'a [u8]> {
+        let at = first_of(self.rest, self.end)?;
+        let text = &self.rest[..at];
+        self.rest = &self.rest[at + 1..];
+        Some(text)
+    }
+}
+
+// The index of the first of the bytes that is the wanted one.
+fn first_of(bytes: &[u8], wanted: u8) -> Option<usize>
+    ensures { result ≡ position (λ b. b == wanted) bytes.now }
+{
+    bytes.iter().position(|byte| *byte == wanted)
 }

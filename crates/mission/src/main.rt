@@ -13,9 +13,10 @@ fn main(rt: HostRuntime) -> io::Result<()> {
     let mut sections = [Placed::default(); MAX_SECTIONS];
     let mut targets = [Placed::default(); MAX_TARGETS];
     let mut ceilings = [Placed::default(); MAX_CEILINGS];
-    // a line has at least one byte, so that this is room for all
-    let mut records = vec![in rt.alloc(); Record::BLANK; MAX_BYTES]?;
-    let mut shown = vec![in rt.alloc(); Shown::BLANK; MAX_BYTES]?;
+    // a line ends with its feed or with the text, so that this is room for all
+    let max_lines = text.split(|byte| *byte == b'\n').count();
+    let mut records = vec![in rt.alloc(); Record::BLANK; max_lines]?;
+    let mut shown = vec![in rt.alloc(); Shown::BLANK; max_lines]?;
     let memory = Memory {
         sections: &mut sections,
         targets: &mut targets,

@@ -19,16 +19,17 @@ const CEILING_MEMORY: usize = 50;
 
 fn main(rt: HostRuntime) -> io::Result<()> {
     let texts = read_at_most(rt.alloc(), rt.stdin(), MAX_BYTES_OF_TEXTS)?;
-    let mut records = vec![in rt.alloc(); Record::BLANK; MAX_BYTES]?;
-    let mut shown = vec![in rt.alloc(); Shown::BLANK; MAX_BYTES]?;
-    for (i, text) in ended_texts(rt.alloc(), texts.as_slice(), TEXT_END)?
-        .iter()
-        .enumerate()
-    {
+    // a text has at most one line more than line feeds, and no more than bytes that count
+    let max_lines = texts.split(|byte| *byte == b'\n').count().min(MAX_BYTES);
+    let mut records = vec![in rt.alloc(); Record::BLANK; max_lines]?;
+    let mut shown = vec![in rt.alloc(); Shown::BLANK; max_lines]?;
+    let mut is_first = true;
+    for text in ended_texts(texts.as_slice(), TEXT_END) {
         // between what is printed on two texts
-        if i > 0 {
+        if !is_first {
             println!(rt; "next")?;
         }
+        is_first = false;
         show_mission(&rt, text, &mut records, &mut shown)?;
     }
     Ok(())

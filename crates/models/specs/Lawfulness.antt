@@ -52,7 +52,7 @@ unfolding bounds
 few = lit< tt
 
 module _ (m : Model) (v : Values) (valid : admissible v ≡ true) where
-  braking_near : (V V0 : ℕ) → V ≤ 4000 → Near (product (whole (base_deceleration v.lambda)) (factors m v V V0)) (product_down (base_deceleration v.lambda) (factors m v V V0))
+  pub braking_near : (V V0 : ℕ) → V ≤ 4000 → Near (product (whole (base_deceleration v.lambda)) (factors m v V V0)) (product_down (base_deceleration v.lambda) (factors m v V V0))
   braking_near V V0 slow = near (base_deceleration v.lambda) (factors m v V V0) bounds (factors_bounded m v V V0 (limits v valid).kr_most slow) few
 
   stop_limited : (q : Question) → Asked (top m v.regime) q → Binds (meaning_of m v) q → Limited (stop_for m v q)

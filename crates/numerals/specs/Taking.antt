@@ -1,6 +1,6 @@
 -- What taking bytes as digits answers.
 use Rattle.std.specs.Prelude.{◌≡◌, ℕ, cond, List, ◌∷◌, length, ℤ, Some, None, Option}
-use Rattle.numerals.specs.Numerals.{Writes, IsDigitCount}
+use Rattle.numerals.specs.Numerals.{Writes, IsDigitCount, IsPlain}
 use Rattle.numerals.specs.Signed.{minus, WritesSigned}
 use Rattle.numerals.specs.declared.digits.Digits.{Digits}
 use Rattle.numerals.specs.declared.digits.SignedDigits.{SignedDigits}
@@ -9,6 +9,11 @@ use Rattle.numerals.specs.declared.digits.SignedDigits.{SignedDigits}
 abbrev pub DigitsTaken : (max_digits : ℕ) → List ℕ → Option Digits → Type 0
 DigitsTaken max_digits bytes (Some d) = (d.bytes.now ≡ bytes) × IsDigitCount max_digits (length bytes)
 DigitsTaken max_digits bytes None = (n : ℕ) → Writes max_digits n bytes → ⊥
+
+-- The same in other words: plain digits are taken, and nothing else is.
+abbrev pub PlainTaken : (max_digits : ℕ) → List ℕ → Option Digits → Type 0
+PlainTaken max_digits bytes (Some d) = IsPlain max_digits bytes
+PlainTaken max_digits bytes None = IsPlain max_digits bytes → ⊥
 
 -- The digits with their minus, if there is one.
 abbrev pub signed_bytes : SignedDigits → List ℕ

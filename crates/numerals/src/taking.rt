@@ -1,7 +1,8 @@
 ghost use Rattle.std.specs.Prelude.{◌≡◌, ℕ, ◌<◌, ◌^◌, ◌↔◌, IsTrue, decimal};
+ghost use Rattle.std.specs.Str.Parse.{digits_value};
 ghost use Rattle.numerals.specs.Digits.{AllDigits};
 ghost use Rattle.numerals.specs.Numerals.{IsDigitCount, HasLeadingZero};
-ghost use Rattle.numerals.specs.Taking.{DigitsTaken};
+ghost use Rattle.numerals.specs.Taking.{DigitsTaken, PlainTaken};
 ghost use Rattle.numerals.specs.Laws.{TakesOwnDigits};
 
 use crate::digits::Digits;
@@ -14,6 +15,7 @@ impl<'a> Digits<'a> {
     #[tactic(auto, using(crate::proofs::RoundTrip::own_digits, crate::proofs::Plainness::decimal_plain))]
     pub fn take(bytes: &'a [u8], max_digits: usize) -> Option<Digits<'a>>
         ensures taken { DigitsTaken max_digits bytes.now result }
+        ensures plain { PlainTaken max_digits bytes.now result }
         ensures own_digits { TakesOwnDigits }
     {
         if is_digit_count(bytes.len(), max_digits)
@@ -30,6 +32,7 @@ impl<'a> Digits<'a> {
     #[tactic(auto, using(crate::proofs::Values::values))]
     pub fn value(self) -> u64
         ensures written { self.entry.bytes.now ≡ decimal result }
+        ensures digits { result ≡ digits_value 10 self.entry.bytes.now }
         // the digits write no other number
         ensures only { (n : ℕ) → n < 10 ^ 10 → self.entry.bytes.now ≡ decimal n → n ≡ result }
         ensures small { result < 10 ^ 10 }

@@ -55,7 +55,7 @@ pub record AnswersLines (sheet : Values) (m : Meaning) (s : State) (text : List 
   pub history : take a.calls records ≡ run sheet m s (calls_of lines)
   pub shows : Shows s.phase lines (take a.calls records) (take a.lines shown)
 
--- A text is answered: its sheet is this one, its call lines are answered over the model that the sheet names, and their records keep the three lines; every stretch ahead, from the rear of the sheet's train on, has one grade, and every place one ceiling at most.
+-- A text is answered: its sheet is this one, its call lines are answered over the model that the sheet names, and their records keep the three lines; every place and every stretch has one grade, and every place one ceiling at most.
 pub record AnswersText (text : List ℕ) (track : Track) (a : Answered) (records : List Record) (shown : List Shown) : Type 0 where
   pub sheet : Values
   pub is_sheet : IsText (sheet_part text) sheet

@@ -1,6 +1,7 @@
 mod Items
 mod Inside
 mod Grades
+mod SectionOrder
 mod Holding
 mod Verdicts
 pub mod Promises

@@ -20,9 +20,8 @@ impl Stretch {
         ensures { result.thousandths ≡ least_grade (sections_in sections.entry.items.now) self.start.millimetres self.end.millimetres }
     {
         sections
-            .items
+            .up_to(self.end)
             .iter()
-            .take_while(|section| section.place <= self.end)
             .fold(STEEPEST_FALL, |least, section| {
                 if section.place <= self.start {
                     section.item

@@ -1,5 +1,5 @@
 ghost use Rattle.std.specs.Prelude.{◌≡◌, ◌↔◌, ◌≤ℤ◌, IsTrue, pos, negsuc};
-ghost use Rattle.units.specs.declared.limits.TheConstants.{STEEPEST_FALL, STEEPEST_RISE};
+ghost use Rattle.units.specs.declared.limits.TheConstants.{MAX_PLACE, MAX_SPEED, STEEPEST_FALL, STEEPEST_RISE};
 
 use crate::quantities::{Distance, Grade, Speed};
 
@@ -36,6 +36,7 @@ pub struct Limits {
 
 // The four constants in one value. Definitions speak of the constants by name; the contract here says which numbers they are.
 pub fn call_limits() -> Limits
+    ensures constants { result ≡ record { max_place = MAX_PLACE; max_speed = MAX_SPEED; steepest_fall = STEEPEST_FALL; steepest_rise = STEEPEST_RISE } }
     ensures max_place { result.max_place.millimetres ≡ 1000000000 }
     ensures max_speed { result.max_speed.tenths ≡ 4000 }
     ensures steepest_fall { result.steepest_fall.thousandths ≡ negsuc 34 }

@@ -37,6 +37,19 @@ impl<'a, T: Copy> PlaceList<'a, T> {
         ensures before { NotGreaterBefore place_of place.millimetres result (sequence self.now) }
         ensures behind { GreaterFrom place_of place.millimetres result (sequence self.now) }
     {
+        // along a line most items come in the order of their places
+        match self.items().last() {
+            Some(last) if last.place > place => self.index_by_halves(place),
+            _ => self.len,
+        }
+    }
+
+    // The same index, looked for by halves.
+    fn index_by_halves(&self, place: Distance) -> usize
+        ensures upto { result ≤ length (sequence self.now) }
+        ensures before { NotGreaterBefore place_of place.millimetres result (sequence self.now) }
+        ensures behind { GreaterFrom place_of place.millimetres result (sequence self.now) }
+    {
         self.items().partition_point(|x| x.place <= place)
     }
 

@@ -1,8 +1,11 @@
-use Rattle.call_text.proofs.CallAnswers.{taken, one_call, one_call_answer, call_goes_forward}
+use Rattle.call_text.proofs.CallAnswers.{taken, short, one_call, one_call_answer, call_goes_forward}
 use Rattle.call_text.proofs.reading.read_call.Goals as goal
 
 pub returns-clause-exactly : goal.returns-clause-exactly
 returns-clause-exactly c = taken c.args.text.now c.read_line.result.call c.read_line.result.next c.read_line.ensures
+
+pub returns-clause-short : goal.returns-clause-short
+returns-clause-short c = short
 
 pub returns-clause-only : goal.returns-clause-only
 returns-clause-only c = one_call

@@ -1,8 +1,7 @@
-use Rattle.std.proofs.Common.{◌≡◌, ◌∷◌, [], ◌∙◌, refl, rules, tests}
+use Rattle.std.proofs.Common.{◌≡◌, ◌∷◌, [], ◌∙◌, take, refl, rules, tests}
 use Rattle.std.proofs.lemmas.Iterator.{YieldsList-from_slice}
-use Rattle.std.proofs.lemmas.Iterator.Search.{YieldsList-from_take_while}
 use Rattle.std.proofs.lemmas.List.Sums.{fold-append}
-use Rattle.std.specs.List.{fold}
+use Rattle.std.specs.List.{fold, prefix_len}
 use Rattle.history.specs.History.{steepest}
 use Rattle.history.proofs.Tracked.{valid_ascends}
 use Rattle.supervision.specs.Items.{sections_in}
@@ -15,7 +14,7 @@ returns c =
     let end = c.args.self.end.millimetres in
     let items = c.args.sections.items.now in
     over (λ y. y.now) (λ ys a. a.thousandths ≡ fold (with_one start) steepest ys) c.fold.ensures.ran
-    (YieldsList-from_take_while _ (inside end) (YieldsList-from_slice items (cc)) c.take_while.ensures.closure c.take_while.ensures.done (λ x b q k. search (rules, tests)))
+    (YieldsList-from_slice (take (prefix_len (inside end) items) items) (cc))
     (λ ys a x b f' j k. let more = fold-append (with_one start) steepest ys (x.now ∷ []) in search (rules, tests)) refl
     ∙ (pass_inside start end items steepest
     ∙ pass_is_least start end (sections_in items) (valid_ascends (sections_in items) c.args.sections.valid) c.args.self.forward)

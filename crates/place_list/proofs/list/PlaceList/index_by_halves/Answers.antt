@@ -4,7 +4,7 @@ use Rattle.std.proofs.lemmas.List.Sorted.{IsPartitionPoint-from_clause, IsPartit
 use Rattle.place_list.specs.Places.{place_of}
 use Rattle.place_list.specs.declared.placed.Placed.{Placed}
 use Rattle.place_list.proofs.Ascents.{non_decreasing}
-use Rattle.place_list.proofs.list.PlaceList.index_for.Goals as goal
+use Rattle.place_list.proofs.list.PlaceList.index_by_halves.Goals as goal
 
 pub returns : goal.returns
 returns g c =
